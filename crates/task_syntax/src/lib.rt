@@ -1,0 +1,17 @@
+//! The tree of a program.
+#![tactic(auto)]
+
+mod body;
+mod expression;
+mod name;
+mod program;
+mod statement;
+
+pub use body::{BodyId, Kind};
+pub use expression::{Expr, Place};
+pub use name::{Name, NameText, Number};
+pub use program::{Event, Init, Program, TaskDecl, TxDecl, UnitDecl, Var};
+pub use statement::Stmt;
+
+#[cfg(test)]
+mod tests;

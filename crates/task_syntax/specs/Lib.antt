@@ -1,0 +1,4 @@
+pub mod Course
+pub mod Names
+pub mod Expressions
+pub mod Statements

@@ -1,4 +1,11 @@
+pub mod CodeWords
+pub mod Cost
 pub mod Course
-pub mod Names
+pub mod Depth
+pub mod Events
 pub mod Expressions
+pub mod LocalCount
+pub mod Names
+pub mod Saturated
 pub mod Statements
+pub mod Units

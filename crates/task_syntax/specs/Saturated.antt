@@ -1,0 +1,5 @@
+-- Measures are told in 32 bits and stand still at the greatest number of these.
+use Rattle.std.specs.Prelude.{ℕ, min}
+
+abbrev pub saturated : ℕ → ℕ
+saturated n = min n 4294967295

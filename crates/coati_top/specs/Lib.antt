@@ -1,0 +1,5 @@
+pub mod Codes
+pub mod Divided
+pub mod Printed
+pub mod Refusal
+pub mod Words

@@ -1,0 +1,17 @@
+-- The words of a command line, without the program's name.
+use Rattle.std.specs.Prelude.{ℕ, List, [], ◌∷◌, Option, Some, None, codes, bytes_eq, if◌then◌else◌}
+use Rattle.coati_word.specs.declared.mode.Mode.TheVariants.{Split}
+use Rattle.coati_top.specs.declared.command.Command.{Command}
+use Rattle.coati_top.specs.declared.command.Command.TheVariants.{Run}
+
+-- the command that two words are
+abbrev pub command_of_two : List ℕ → List ℕ → Option Command
+command_of_two command mode =
+    if bytes_eq command (codes "run") then (if bytes_eq mode (codes "split") then Some (Run Split) else None) else None
+
+-- the command that the words are, if they are one
+abbrev pub command_of : List (List ℕ) → Option Command
+command_of [] = None
+command_of (command ∷ []) = None
+command_of (command ∷ mode ∷ []) = command_of_two command mode
+command_of (command ∷ mode ∷ other ∷ more) = None

@@ -1,0 +1,23 @@
+ghost use Rattle.std.specs.Prelude.{◌≡◌, map, string_bytes};
+ghost use Rattle.coati_top.specs.Words.{command_of};
+
+use coati_word::Mode;
+
+/// What the words of a command line ask for.
+#[derive(Clone, Copy, Debug, PartialEq, Eq)]
+pub enum Command {
+    /// Run the source of the input, with the events in this mode.
+    Run(Mode),
+}
+
+/// The command of the words, without the program's name.
+pub fn command_of(words: &[String]) -> Option<Command>
+    ensures { result ≡ command_of (map string_bytes words.now) }
+{
+    match words {
+        [command, mode] if command.as_str() == "run" && mode.as_str() == "split" => {
+            Some(Command::Run(Mode::Split))
+        }
+        _ => None,
+    }
+}

@@ -1,0 +1,3 @@
+pub mod AppendedBytes
+pub mod ConsumedBytes
+pub mod Faults

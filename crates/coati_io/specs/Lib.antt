@@ -1,0 +1,5 @@
+pub mod Adapters
+pub mod Counts
+pub mod Causes
+pub mod Ends
+pub mod Memory

@@ -1,2 +1,3 @@
 pub mod Message
 pub mod Operator
+pub mod OperatorLaws

@@ -2,6 +2,7 @@
 #![tactic(auto)]
 
 mod ending;
+pub mod laws;
 pub mod limits;
 mod memory;
 mod message;

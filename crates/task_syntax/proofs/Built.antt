@@ -1,17 +1,21 @@
 -- Trees built for examples, layer by layer, so that what they mean can be computed.
-use Rattle.std.proofs.Common.{ℕ, List}
-use Rattle.std.specs.Prelude.{Option, None}
+use Rattle.std.proofs.Common.{ℕ, List, []}
+use Rattle.std.specs.Prelude.{Option, Some, None, slice_index}
 use Rattle.coati_word.specs.declared.operator.Op.{Op}
 use Rattle.task_syntax.specs.declared.name.Name.{Name}
 use Rattle.task_syntax.specs.declared.program.Var.{Var}
 use Rattle.task_syntax.specs.declared.program.Init.TheVariants as init
+use Rattle.task_syntax.specs.declared.program.Program.{Program}
 use Rattle.task_syntax.specs.declared.program.TaskDecl.{TaskDecl}
+use Rattle.task_syntax.specs.declared.program.UnitDecl.{UnitDecl}
+use Rattle.task_syntax.specs.declared.program.UnitDecl.TheVariants.{Lone, Tx}
 use Rattle.task_syntax.specs.declared.expression.Expr.{Expr}
 use Rattle.task_syntax.specs.declared.expression.Place.{Place}
 use Rattle.task_syntax.specs.declared.expression.Expr as E
 use Rattle.task_syntax.specs.declared.expression.Place as P
 use Rattle.task_syntax.specs.declared.statement.Stmt.{Stmt}
 use Rattle.task_syntax.specs.declared.statement.Stmt as S
+use Rattle.task_syntax.specs.Course.{Store}
 
 abbrev pub named : List ℕ → Name
 named text = record { text = text; at = 0 }
@@ -55,4 +59,21 @@ scalar name value = record { name = named name; length = None; init = init.One v
 abbrev pub task : List ℕ → List Stmt → TaskDecl
 task name body = record { name = named name; body = body }
 
--- what a layer makes of its parts
+abbrev pub let' : List ℕ → Expr → Stmt
+let' name value = S.roll-Stmt (S.Stmt-F.Let (named name) value)
+
+abbrev pub array : List ℕ → ℕ → List ℕ → Var
+array name length values = record { name = named name; length = Some length; init = init.Many values }
+
+abbrev pub program : List Var → List UnitDecl → Program
+program vars units = record { vars = vars; buffer = None; events = []; units = units }
+
+abbrev pub lone : List ℕ → List Stmt → UnitDecl
+lone name body = Lone (task name body)
+
+abbrev pub transaction : List ℕ → List TaskDecl → UnitDecl
+transaction name tasks = Tx (record { name = named name; tasks = tasks })
+
+-- a store that holds these values, and 0 behind them
+abbrev pub holding : List ℕ → Store
+holding values word = slice_index values word

@@ -1,4 +1,17 @@
+pub mod Bounds
 pub mod Built
+pub mod Chains
+pub mod ExampleEvents
+pub mod ExampleMeasures
+pub mod ExampleUnits
 pub mod Examples
+pub mod Frames
+pub mod Layers
+pub mod MeasureLayers
+pub mod Moments
 pub mod Named
+pub mod Quiet
 pub mod Sums
+pub mod Trees
+pub mod UnitFrames
+pub mod VariableWords

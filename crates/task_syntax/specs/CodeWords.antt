@@ -22,12 +22,15 @@ abbrev pub access_words_step : Place-F ℕ ℕ → ℕ
 access_words_step (Place-F.Plain name) = 2
 access_words_step (Place-F.Item name index) = index + 3
 
+-- the words of the code of an expression
 abbrev pub expression_words : Expr → ℕ
 expression_words = fold-Expr ℕ ℕ expression_words_step access_words_step
 
+-- the words of the index of a place and of what reads or writes the place
 abbrev pub access_words : Place → ℕ
 access_words = fold-Place ℕ ℕ expression_words_step access_words_step
 
+-- the words of expressions, one after another
 abbrev pub expressions_words : List Expr → ℕ
 expressions_words es = sum (map expression_words es)
 
@@ -36,6 +39,7 @@ abbrev pub condition_words : ℕ → ℕ → Option ℕ → ℕ
 condition_words condition block None = condition + 2 + block
 condition_words condition block (Some other) = condition + 2 + block + 2 + other
 
+-- one layer of a statement; a loop has 20 words round its block
 abbrev pub statement_words_step : Stmt-F ℕ → ℕ
 statement_words_step (Stmt-F.Let name e) = expression_words e + 2
 statement_words_step (Stmt-F.Assign place e) = access_words place + expression_words e
@@ -45,9 +49,11 @@ statement_words_step (Stmt-F.Next name) = 2
 statement_words_step (Stmt-F.Halt at) = 1
 statement_words_step (Stmt-F.Give es at) = expressions_words es + 2
 
+-- the words of the code of a statement
 abbrev pub statement_words : Stmt → ℕ
 statement_words = fold-Stmt ℕ statement_words_step
 
+-- the words of statements, one after another
 abbrev pub statements_words : List Stmt → ℕ
 statements_words stmts = sum (map statement_words stmts)
 

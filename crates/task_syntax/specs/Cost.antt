@@ -20,10 +20,12 @@ expression_cost_step (Expr-F.Get index) = index + 1
 expression_cost_step (Expr-F.One op operand) = operand + 1
 expression_cost_step (Expr-F.Two op left right) = left + right + 1
 
+-- a place without an index costs nothing before it is read or written
 abbrev pub index_cost_step : Place-F ℕ ℕ → ℕ
 index_cost_step (Place-F.Plain name) = 0
 index_cost_step (Place-F.Item name index) = index
 
+-- the cost of an expression
 abbrev pub expression_cost : Expr → ℕ
 expression_cost = fold-Expr ℕ ℕ expression_cost_step index_cost_step
 
@@ -31,6 +33,7 @@ expression_cost = fold-Expr ℕ ℕ expression_cost_step index_cost_step
 abbrev pub index_cost : Place → ℕ
 index_cost = fold-Place ℕ ℕ expression_cost_step index_cost_step
 
+-- the cost of expressions, one after another
 abbrev pub expressions_cost : List Expr → ℕ
 expressions_cost es = sum (map expression_cost es)
 
@@ -39,6 +42,7 @@ abbrev pub plain_store_cost : Option Words → ℕ
 plain_store_cost None = 1
 plain_store_cost (Some words) = 3
 
+-- a condition, one step that looks at it, and the greater of the blocks; the block before an `else` jumps over the other
 abbrev pub condition_cost : ℕ → ℕ → Option ℕ → ℕ
 condition_cost condition block None = condition + 1 + block
 condition_cost condition block (Some other) = condition + 1 + max (block + 1) other
@@ -47,6 +51,7 @@ condition_cost condition block (Some other) = condition + 1 + max (block + 1) ot
 abbrev pub loop_cost : ℕ → ℕ → ℕ
 loop_cost count block = 2 + count * (9 + block) + 4
 
+-- the cost of the block behind `else`, where there is one
 abbrev pub sum_of : Option (List ℕ) → Option ℕ
 sum_of None = None
 sum_of (Some costs) = Some (sum costs)
@@ -58,6 +63,7 @@ end_cost Top = 0
 end_cost Bottom = 1
 
 module _ (program : Program) where
+  -- a store to a variable is 3
   abbrev pub store_step : Place-F ℕ ℕ → ℕ
   store_step (Place-F.Plain name) = plain_store_cost (words_of program name.text)
   store_step (Place-F.Item name index) = 3
@@ -66,6 +72,7 @@ module _ (program : Program) where
   abbrev pub store_cost : Place → ℕ
   store_cost = fold-Place ℕ ℕ expression_cost_step store_step
 
+  -- one layer of a statement
   abbrev pub statement_cost_step : Stmt-F ℕ → ℕ
   statement_cost_step (Stmt-F.Let name e) = expression_cost e + 1
   statement_cost_step (Stmt-F.Assign place e) = index_cost place + expression_cost e + store_cost place
@@ -75,6 +82,7 @@ module _ (program : Program) where
   statement_cost_step (Stmt-F.Halt at) = 1
   statement_cost_step (Stmt-F.Give es at) = expressions_cost es + 1
 
+  -- the cost of a statement
   abbrev pub statement_cost : Stmt → ℕ
   statement_cost = fold-Stmt ℕ statement_cost_step
 

@@ -3,6 +3,7 @@
 use Rattle.std.specs.Prelude.{ℕ, ◌==◌, List, [], ◌∷◌, if◌then◌else◌}
 use Rattle.coati_word.specs.declared.reading.Reading.{Reading}
 
+-- a course that ends with an answer of this type
 pub data Course (Answer : Type 0) : Type 0 where
   ends : Answer → Course Answer
   reads : (word : ℕ) → (ℕ → Course Answer) → Course Answer

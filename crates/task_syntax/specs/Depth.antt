@@ -18,16 +18,19 @@ abbrev pub store_depth : Option ℕ → ℕ → ℕ
 store_depth None value = value
 store_depth (Some index) value = max index (1 + value)
 
+-- the left side of an operator stays below the right one
 abbrev pub expression_depth_step : Expr-F ℕ (Option ℕ) → ℕ
 expression_depth_step (Expr-F.Num number) = 1
 expression_depth_step (Expr-F.Get index) = read_depth index
 expression_depth_step (Expr-F.One op operand) = operand
 expression_depth_step (Expr-F.Two op left right) = max left (1 + right)
 
+-- only an item has an index
 abbrev pub index_depth_step : Place-F ℕ (Option ℕ) → Option ℕ
 index_depth_step (Place-F.Plain name) = None
 index_depth_step (Place-F.Item name index) = Some index
 
+-- the depth of an expression
 abbrev pub expression_depth : Expr → ℕ
 expression_depth = fold-Expr ℕ (Option ℕ) expression_depth_step index_depth_step
 
@@ -35,10 +38,12 @@ expression_depth = fold-Expr ℕ (Option ℕ) expression_depth_step index_depth_
 abbrev pub index_depth : Place → Option ℕ
 index_depth = fold-Place ℕ (Option ℕ) expression_depth_step index_depth_step
 
+-- the greatest of some depths, and 0 where there are none
 abbrev pub greatest : List ℕ → ℕ
 greatest [] = 0
 greatest (depth ∷ more) = max depth (greatest more)
 
+-- that of the block behind `else`, where there is one
 abbrev pub greatest_otherwise : Option (List ℕ) → ℕ
 greatest_otherwise None = 0
 greatest_otherwise (Some depths) = greatest depths
@@ -48,6 +53,7 @@ abbrev pub stacked : ℕ → List ℕ → ℕ
 stacked below [] = 0
 stacked below (depth ∷ more) = max (below + depth) (stacked (below + 1) more)
 
+-- one layer of a statement; a loop compares its two numbers
 abbrev pub statement_depth_step : Stmt-F ℕ → ℕ
 statement_depth_step (Stmt-F.Let name e) = expression_depth e
 statement_depth_step (Stmt-F.Assign place e) = store_depth (index_depth place) (expression_depth e)
@@ -57,6 +63,7 @@ statement_depth_step (Stmt-F.Next name) = 0
 statement_depth_step (Stmt-F.Halt at) = 0
 statement_depth_step (Stmt-F.Give es at) = stacked 0 (map expression_depth es)
 
+-- the depth of a statement
 abbrev pub statement_depth : Stmt → ℕ
 statement_depth = fold-Stmt ℕ statement_depth_step
 

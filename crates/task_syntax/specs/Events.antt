@@ -35,6 +35,7 @@ message program event argument = message_of (answer (body program event.top (wit
 abbrev pub bottom_course : Program → Event → List ℕ → Course Ending
 bottom_course program event words = body program event.bottom (with_words event.params words no_locals)
 
+-- the bottom half of an event on what its top half gives; an event that isn't there does nothing
 abbrev pub course_of : Program → Option Event → ℕ → Course Ending
 course_of program None argument = Course.ends Done
 course_of program (Some event) argument = bottom_course program event (message program event argument)

@@ -20,6 +20,7 @@ Locals = List ℕ → ℕ
 abbrev pub no_locals : Locals
 no_locals name = 0
 
+-- the locals with one name set
 abbrev pub with_local : List ℕ → ℕ → Locals → Locals
 with_local name value locals = λ other. if bytes_eq other name then value else locals other
 
@@ -28,6 +29,7 @@ pub data Aim : Type 0 where
   named : List ℕ → Aim
   in_word : ℕ → Aim
 
+-- a name without an index; of an array it is the first word
 abbrev pub plain_aim : List ℕ → Option Words → Aim
 plain_aim name None = Aim.named name
 plain_aim name (Some words) = Aim.in_word words.first
@@ -51,6 +53,7 @@ module _ (program : Program) where
   expression_step (Expr-F.Two op left right) locals =
       chain (left locals) (λ a. chain (right locals) (λ b. Course.ends (operator_value op a b)))
 
+  -- one layer of a place
   abbrev pub aim_step : Place-F (Locals → Course ℕ) (Locals → Course Aim) → Locals → Course Aim
   aim_step (Place-F.Plain name) locals = Course.ends (plain_aim name.text (words_of program name.text))
   aim_step (Place-F.Item name index) locals =

@@ -1,11 +1,13 @@
 pub mod CodeWords
 pub mod Cost
 pub mod Course
+pub mod CourseLaws
 pub mod Depth
 pub mod Events
 pub mod Expressions
 pub mod LocalCount
 pub mod Names
+pub mod ProgramLaws
 pub mod Saturated
 pub mod Statements
 pub mod Units

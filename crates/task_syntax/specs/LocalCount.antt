@@ -4,10 +4,12 @@ use Rattle.task_syntax.specs.declared.statement.Stmt.{Stmt}
 use Rattle.task_syntax.specs.declared.statement.Stmt.TheOpen.{Stmt-F}
 use Rattle.task_syntax.specs.declared.statement.Stmt.TheFolds.{fold-Stmt}
 
+-- those of the block behind `else`, where there is one
 abbrev pub declared_otherwise : Option (List ℕ) → ℕ
 declared_otherwise None = 0
 declared_otherwise (Some counts) = sum counts
 
+-- one layer of a statement
 abbrev pub declared_step : Stmt-F ℕ → ℕ
 declared_step (Stmt-F.Let name e) = 1
 declared_step (Stmt-F.Assign place e) = 0
@@ -21,6 +23,7 @@ declared_step (Stmt-F.Give es at) = 0
 abbrev pub declared_count : Stmt → ℕ
 declared_count = fold-Stmt ℕ declared_step
 
+-- how many locals statements declare
 abbrev pub declared_counts : List Stmt → ℕ
 declared_counts stmts = sum (map declared_count stmts)
 

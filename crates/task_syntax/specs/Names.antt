@@ -20,6 +20,7 @@ pub record Words : Type 0 where
 abbrev pub count_of : Option ℕ → ℕ
 count_of length = unwrap_or length 1
 
+-- how many words these variables have
 abbrev pub word_count : List Var → ℕ
 word_count [] = 0
 word_count (var ∷ vars) = count_of var.length + word_count vars
@@ -32,6 +33,7 @@ words_from first (var ∷ vars) name =
     then Some (record { first = first; length = var.length })
     else words_from (first + count_of var.length) vars name
 
+-- the words of the variable of a name, where it is one
 abbrev pub words_of : Program → List ℕ → Option Words
 words_of program name = words_from 0 program.vars name
 
@@ -49,6 +51,7 @@ first_values var = given_values var.init ++ replicate (count_of var.length - len
 abbrev pub opening_values : Program → List ℕ
 opening_values program = flat_map first_values program.vars
 
+-- the tasks of a unit
 abbrev pub tasks_of_unit : UnitDecl → List TaskDecl
 tasks_of_unit (Lone task) = task ∷ []
 tasks_of_unit (Tx tx) = tx.tasks
@@ -62,5 +65,6 @@ abbrev pub task_from : ℕ → List TaskDecl → List ℕ → Option ℕ
 task_from first [] name = None
 task_from first (task ∷ more) name = if bytes_eq task.name.text name then Some first else task_from (first + 1) more name
 
+-- the number of the task of a name, where it is one
 abbrev pub task_of : Program → List ℕ → Option ℕ
 task_of program name = task_from 0 (tasks program) name

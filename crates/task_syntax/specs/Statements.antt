@@ -50,6 +50,11 @@ abbrev pub next_task : Option ℕ → Ending
 next_task None = Halt
 next_task (Some task) = Next task
 
+-- a body that runs to its end is done
+abbrev pub ending_of : Way → Course Ending
+ending_of (Way.on locals) = Course.ends Done
+ending_of (Way.out ending) = Course.ends ending
+
 module _ (program : Program) where
   -- one layer of a statement, with the conduct of the statements in it
   abbrev pub statement_step : Stmt-F Conduct → Conduct
@@ -69,11 +74,6 @@ module _ (program : Program) where
   -- what statements do, one after another
   abbrev pub statements : List Stmt → Conduct
   statements body = in_turn (map statement body)
-
-  -- a body that runs to its end is done
-  abbrev pub ending_of : Way → Course Ending
-  ending_of (Way.on locals) = Course.ends Done
-  ending_of (Way.out ending) = Course.ends ending
 
   -- the course of a body on its parameters
   abbrev pub body : List Stmt → Locals → Course Ending

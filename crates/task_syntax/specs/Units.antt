@@ -29,6 +29,7 @@ abbrev pub first_from : ℕ → ℕ → List (Option ℕ) → Option ℕ
 first_from tx task [] = None
 first_from tx task (member ∷ more) = if option_map_or (λ x. x == tx) member false then Some task else first_from tx (task + 1) more
 
+-- the place of the first task of a transaction
 abbrev pub first_task : Program → ℕ → Option ℕ
 first_task program tx = first_from tx 0 (memberships 0 program.units)
 
@@ -43,6 +44,7 @@ place_after Halt = halt
 place_after Done = halt
 place_after (Given words) = halt
 
+-- the body of a task; a task that isn't there has none
 abbrev pub statements_of : Option TaskDecl → List Stmt
 statements_of None = []
 statements_of (Some task) = task.body
@@ -65,12 +67,17 @@ abbrev pub is_same : Option ℕ → Option ℕ → Bool
 is_same None other = false
 is_same (Some tx) other = option_map_or (λ x. x == tx) other false
 
+-- the place is in the transaction of the task
 abbrev pub is_inside : Program → ℕ → ℕ → Bool
 is_inside program task place = is_same (transaction_of program task) (transaction_of program place)
 
 -- one task more, which runs on what those before it left
 abbrev pub followed_by : Reached → Reached → Reached
 followed_by before task = record { done = before.done ++ task.done; place = task.place }
+
+-- what tasks have reached, where the unit of the first of them has ended there
+abbrev pub unless_inside : Program → ℕ → Reached → Option Reached
+unless_inside program task reached = if is_inside program task reached.place then None else Some reached
 
 module _ (program : Program) (task : ℕ) (store : Store) where
   -- the place is inside, so one task more runs
@@ -91,11 +98,8 @@ module _ (program : Program) (task : ℕ) (store : Store) where
   tasks_effect (suc more) = task_and_more more
 
   -- what a unit does, where it is whole after so many tasks
-  abbrev pub unless_inside : Reached → Option Reached
-  unless_inside reached = if is_inside program task reached.place then None else Some reached
-
   abbrev pub whole_effect : ℕ → Option Reached
-  whole_effect count = option_and_then unless_inside (tasks_effect count)
+  whole_effect count = option_and_then (unless_inside program task) (tasks_effect count)
 
   -- the unit is whole after so many tasks
   pub record IsWhole (count : ℕ) : Type 0 where

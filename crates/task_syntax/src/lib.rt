@@ -3,6 +3,7 @@
 
 mod body;
 mod expression;
+pub mod laws;
 mod measure;
 mod name;
 mod program;

@@ -1,12 +1,11 @@
 -- The two parts of an input: what stands before its first line that is exactly `%%`, and what follows that line. An
 -- input without such a line is its first part, and the second is empty.
-use Rattle.std.specs.Prelude.{ℕ, ◌+◌, ◌==◌, ◌&&◌, Bool, true, false, List, [], ◌∷◌, take, drop, if◌then◌else◌}
+use Rattle.std.specs.Prelude.{ℕ, ◌≡◌, ◌≢◌, ◌+◌, ◌==◌, ◌&&◌, Bool, true, false, List, [], ◌∷◌, ◌++◌, All, take, drop, codes, if◌then◌else◌}
+use Rattle.coati_text.specs.Line.{line_feed, lines_of}
 
+-- the byte `%`
 abbrev pub percent : ℕ
 percent = 37
-
-abbrev pub line_feed : ℕ
-line_feed = 10
 
 -- the text begins with the line `%%`, which may be its last without an end
 abbrev pub begins_divider : List ℕ → Bool
@@ -29,3 +28,23 @@ source_part input = take (source_length input) input
 
 abbrev pub second_part : List ℕ → List ℕ
 second_part input = drop (source_length input + 3) input
+
+-- the line that ends the source, without its end
+abbrev pub divider : List ℕ
+divider = codes "%%"
+
+-- no line of the text is exactly `%%`
+abbrev pub HasNoDivider : List ℕ → Type 0
+HasNoDivider text = All (λ line. line ≢ divider) (lines_of text)
+
+-- each line of the text has its end
+pub data HasEnds (text : List ℕ) : Type 0 where
+  empty : text ≡ [] → HasEnds text
+  ended : (front : List ℕ) → text ≡ front ++ line_feed ∷ [] → HasEnds text
+
+-- an input is a source of lines that are not `%%`, then the line `%%` with its end or as the last one without an end,
+-- then a second part; or it has no such line, and is its source
+pub data IsDivided (input source second : List ℕ) : Type 0 where
+  at_line : HasNoDivider source → HasEnds source → input ≡ source ++ (divider ++ line_feed ∷ second) → IsDivided input source second
+  at_last : HasNoDivider source → HasEnds source → input ≡ source ++ divider → second ≡ [] → IsDivided input source second
+  nowhere : HasNoDivider input → source ≡ input → second ≡ [] → IsDivided input source second

@@ -1,5 +1,11 @@
+pub mod Answer
+pub mod Call
 pub mod Codes
 pub mod Divided
+pub mod Ended
+pub mod FormParts
+pub mod LimitLine
 pub mod Printed
 pub mod Refusal
+pub mod RunFault
 pub mod Words

@@ -1,16 +1,19 @@
 ghost use Rattle.std.specs.Prelude.{◌≡◌, ◌≤◌, ◌<◌, length, IfOk, OnOk};
 ghost use Rattle.coati_board.specs.FirstForm.{IsFirstForm};
 
+use crate::first_form::is_first_form;
 use crate::form_reader::{FormFault, FormReader};
-use coati_board::is_first_form;
-use coati_word::{Op, OutOfMemory};
 use sqlite_items::{Boxed, Items};
 use std::alloc::Global;
 use task_lex::{Keyword, Symbol, Token, TokenKind};
 use task_syntax::{Expr, Init, Place, Program, Stmt, TaskDecl, UnitDecl, Var};
 
 /// The program that the tokens of a source spell in the first form: scalars, and lone tasks that assign and then end.
-pub(crate) fn read_form(alloc: Global, source: &[u8], tokens: &[Token]) -> Result<Program, FormFault>
+pub(crate) fn read_form(
+    alloc: Global,
+    source: &[u8],
+    tokens: &[Token],
+) -> Result<Program, FormFault>
     ensures { IfOk result IsFirstForm }
 {
     let mut reader = FormReader {
@@ -155,24 +158,13 @@ fn expression(alloc: Global, reader: &mut FormReader<'_>) -> Result<Expr, FormFa
     ensures forward { reader.old.at ≤ reader.new.at }
 {
     let left = operand(alloc, reader)?;
-    let Some(op) = join_of(reader.peek()) else {
+    let Some(op) = reader.join() else {
         return Ok(left);
     };
-    reader.at += 1;
     let right = operand(alloc, reader)?;
     let left = Boxed::new(alloc, left).map_err(|_| FormFault::OutOfMemory)?;
     let right = Boxed::new(alloc, right).map_err(|_| FormFault::OutOfMemory)?;
     Ok(Expr::Two(op, left, right))
-}
-
-/// The operator that a token joins operands by.
-fn join_of(kind: Option<TokenKind>) -> Option<Op> {
-    match kind {
-        Some(TokenKind::Symbol(Symbol::Plus)) => Some(Op::Add),
-        Some(TokenKind::Symbol(Symbol::Minus)) => Some(Op::Sub),
-        Some(TokenKind::Symbol(Symbol::Below)) => Some(Op::Lt),
-        _ => None,
-    }
 }
 
 /// A number, or a name.

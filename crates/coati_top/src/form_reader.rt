@@ -1,8 +1,9 @@
-ghost use Rattle.std.specs.Prelude.{◌≡◌, ◌+◌, ◌<◌, ◌≤◌, length, IsTrue, OnTrue, OnOk, IfOk, IfSome};
+ghost use Rattle.std.specs.Prelude.{◌≡◌, ◌<◌, ◌≤◌, length, OnOk, IfSome};
+ghost use Rattle.std.specs.Bool.{OnTrue};
 
-use coati_word::OutOfMemory;
+use coati_word::{Op, OutOfMemory};
 use std::alloc::Global;
-use task_lex::{Token, TokenKind};
+use task_lex::{Symbol, Token, TokenKind};
 use task_syntax::{Name, NameText};
 
 /// Why a source was not read.
@@ -25,6 +26,7 @@ impl From<OutOfMemory> for FormFault {
 }
 
 /// The tokens of a source, read one after another.
+#[derive(Drop)]
 pub(crate) struct FormReader<'a> {
     pub(crate) source: &'a [u8],
     pub(crate) tokens: &'a [Token],
@@ -105,6 +107,22 @@ impl<'a> FormReader<'a> {
             text,
             at: token.start,
         })
+    }
+
+    /// Reads the operator that joins two operands, where one comes next.
+    pub(crate) fn join(&mut self) -> Option<Op>
+        ensures tokens { self.new.tokens.now ≡ self.old.tokens.now }
+        ensures forward { self.old.at ≤ self.new.at }
+    {
+        if self.skip(TokenKind::Symbol(Symbol::Plus)) {
+            Some(Op::Add)
+        } else if self.skip(TokenKind::Symbol(Symbol::Minus)) {
+            Some(Op::Sub)
+        } else if self.skip(TokenKind::Symbol(Symbol::Below)) {
+            Some(Op::Lt)
+        } else {
+            None
+        }
     }
 
     /// Reads a number.

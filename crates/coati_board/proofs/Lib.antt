@@ -1,0 +1,16 @@
+pub mod Records
+pub mod Declared
+pub mod Courses
+pub mod Forms
+pub mod Bodies
+pub mod Logs
+pub mod Phases
+pub mod Ranges
+pub mod Fitting
+pub mod Room
+pub mod Stepping
+pub mod Examples
+pub mod Reaching
+pub mod Entries
+pub mod Committing
+pub mod Serial

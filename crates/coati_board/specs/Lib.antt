@@ -1,0 +1,11 @@
+pub mod FirstForm
+pub mod Memory
+pub mod StandsFor
+pub mod History
+pub mod Tasks
+pub mod Fit
+pub mod Act
+pub mod SerialRun
+pub mod Sound
+pub mod Board
+pub mod Example

@@ -1,0 +1,19 @@
+//! The board: a device that runs the tasks of a program and commits each as a whole.
+#![tactic(auto)]
+
+mod board;
+mod device;
+mod expression;
+mod history;
+mod memory;
+mod names;
+mod readings;
+mod steps;
+mod task_log;
+
+pub use board::Board;
+pub use device::{Device, Phase};
+pub use history::{End, History, Mark, MarkKind, Record, Unit};
+
+#[cfg(test)]
+mod tests;

@@ -1,0 +1,4 @@
+pub mod Dividers
+pub mod Explaining
+pub mod Forms
+pub mod Shapes

@@ -1,0 +1,95 @@
+ghost use Rattle.std.specs.Prelude.{◌≡◌, ◌≤◌, length, map, string_bytes, None, Some};
+ghost use Rattle.coati_top.specs.Call.{edge_of, after_fault, Explained, Delivers, AnswersTo};
+ghost use Rattle.coati_top.specs.Words.{command_of};
+
+use crate::answer::{Reply, answer_to};
+use crate::{Command, Done, Status, command_of};
+use coati_io::{ReadEnd, Sink, Source, read_all, write_all};
+use coati_word::limits::INPUT_BYTES;
+use std::alloc::Global;
+
+/// Does what the words say, from the input to the output. It returns, whatever these do.
+pub fn coati_still<S: Source, K: Sink>(
+    alloc: Global,
+    words: &[String],
+    input: &mut S,
+    output: &mut K,
+) -> Done
+    ensures { Explained (command_of (map string_bytes words.now)) result.status
+        (edge_of S.left S.faults input.old input.new) (edge_of K.taken K.faults output.old output.new) result.board }
+{
+    match command_of(words) {
+        None => Done {
+            status: deliver(output, Status::Usage, USAGE),
+            board: None,
+        },
+        Some(command) => run(alloc, command, input, output),
+    }
+}
+
+const USAGE: &[u8] = b"usage: coati check | dump | run MODE | live MODE | replay MODE | gen N\n";
+
+/// Does what a command says.
+fn run<S: Source, K: Sink>(alloc: Global, command: Command, input: &mut S, output: &mut K) -> Done
+    ensures { Explained (Some command) result.status
+        (edge_of S.left S.faults input.old input.new) (edge_of K.taken K.faults output.old output.new) result.board }
+{
+    match read_all(alloc, input, INPUT_BYTES) {
+        Ok(bytes) => answer(alloc, command, &bytes, output),
+        Err(ReadEnd::Fault) => without_board(Status::ReadFault),
+        Err(ReadEnd::TooLarge) => {
+            without_board(deliver(output, Status::TooLarge, b"input too large\n"))
+        }
+        Err(ReadEnd::OutOfMemory) => without_board(Status::OutOfMemory),
+    }
+}
+
+/// Answers to all that was read.
+fn answer<K: Sink>(alloc: Global, command: Command, bytes: &[u8], output: &mut K) -> Done
+    requires { length bytes.now ≤ 262144 }
+    ensures { AnswersTo command bytes.now result.status (edge_of K.taken K.faults output.old output.new) result.board }
+{
+    match answer_to(alloc, command, bytes) {
+        Ok(
+            Reply {
+                status,
+                text,
+                board,
+            },
+        ) => Done {
+            status: deliver(output, status, &text),
+            board,
+        },
+        Err(_) => without_board(Status::OutOfMemory),
+    }
+}
+
+fn without_board(status: Status) -> Done
+    ensures status { result.status ≡ status }
+    ensures board { result.board ≡ None }
+{
+    Done {
+        status,
+        board: None,
+    }
+}
+
+/// Writes the text that belongs to a status. Where that fails, `Ok` becomes a write fault, and another status stays.
+fn deliver<K: Sink>(output: &mut K, status: Status, text: &[u8]) -> Status
+    ensures { Delivers status result (edge_of K.taken K.faults output.old output.new) text.now }
+{
+    match write_all(output, text) {
+        Ok(()) => status,
+        Err(_) => after_fault(status),
+    }
+}
+
+/// What a status becomes where its text was not written whole.
+fn after_fault(status: Status) -> Status
+    ensures { result ≡ after_fault status }
+{
+    match status {
+        Status::Ok => Status::WriteFault,
+        _ => status,
+    }
+}

@@ -37,12 +37,12 @@ module _ (command : Command) (input output : Edge) (board : Option Whole) where
     explains_delivered status before text (refused refusal cause is text_is none) (inr front) =
         explained_at status Refused (front.0 ∙ ap after_fault is)
         (answered before Refused text (Writes output) is (refused refusal cause is text_is none) (inr (front.1, front.2)))
-    explains_delivered status before text (ran run asks ended is text_is some) (inl all) =
+    explains_delivered status before text (ran run made is text_is some) (inl all) =
         explained_at status Ok (all.0 ∙ is)
-        (answered before Ok text (WritesAll output) is (ran run asks ended is text_is some) all.1)
-    explains_delivered status before text (ran run asks ended is text_is some) (inr front) =
+        (answered before Ok text (WritesAll output) is (ran run made is text_is some) all.1)
+    explains_delivered status before text (ran run made is text_is some) (inr front) =
         explained_at status WriteFault (front.0 ∙ ap after_fault is)
-        (front.1, answered before Ok text (WritesFront output) is (ran run asks ended is text_is some) front.2)
+        (front.1, answered before Ok text (WritesFront output) is (ran run made is text_is some) front.2)
 
     pub explains_answer : (status : Status) → AnswersTo command bytes status output board → Explains command status input output board
     explains_answer status (delivered before text answers delivers) = explains_delivered status before text answers delivers

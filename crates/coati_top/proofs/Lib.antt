@@ -1,4 +1,6 @@
+pub mod Beginnings
 pub mod Dividers
 pub mod Explaining
 pub mod Forms
+pub mod Repetition
 pub mod Shapes

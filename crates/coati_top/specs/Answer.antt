@@ -6,6 +6,8 @@ use Rattle.task_lex.specs.declared.fault.LexFault.TheVariants.{BadByte, BadNumbe
 use Rattle.task_lex.specs.declared.token.Token.{Token}
 use Rattle.coati_board.specs.Board.{Whole}
 use Rattle.coati_board.specs.FirstForm.{IsFirstForm}
+use Rattle.coati_board.specs.SerialRun.{SerialRun}
+use Rattle.coati_board.specs.Sound.{StandsFor}
 use Rattle.coati_top.specs.declared.command.Command.{Command}
 use Rattle.coati_top.specs.declared.refusal.Refusal.{Refusal}
 use Rattle.coati_top.specs.declared.refusal.Refusal.TheVariants.{Lexical, Number, Later}
@@ -13,30 +15,43 @@ use Rattle.coati_top.specs.declared.status.Status.{Status}
 use Rattle.coati_top.specs.declared.status.Status.TheVariants.{Ok, Refused}
 use Rattle.coati_top.specs.Divided.{source_part, second_part}
 use Rattle.coati_top.specs.Ended.{IsEnded}
+use Rattle.coati_top.specs.FormText.{SpellsForm}
 use Rattle.coati_top.specs.LimitLine.{IsLimitLine}
 use Rattle.coati_top.specs.Printed.{board_text}
 use Rattle.coati_top.specs.Refusal.{refusal_text}
 
--- the source of the input has tokens
-pub record HasTokens (input : List ℕ) : Type 0 where
+-- the input asks for a run of this program within this limit: the tokens of its source spell the program in the first
+-- form, and its second part is the limit
+pub record AsksFor (input : List ℕ) (program : Program) (limit : ℕ) : Type 0 where
   pub tokens : List Token
   pub read : Tokens (source_part input) tokens
+  pub spelled : SpellsForm (source_part input) tokens program
+  pub form : IsFirstForm program
+  pub limited : IsLimitLine (second_part input) limit
+
+-- its source has tokens, but they and the second part ask for no run
+pub record AsksForNoRun (input : List ℕ) : Type 0 where
+  pub tokens : List Token
+  pub read : Tokens (source_part input) tokens
+  pub no_run : (program : Program) (limit : ℕ) → AsksFor input program limit → ⊥
 
 -- why an input is refused
 abbrev pub IsRefused : List ℕ → Refusal → Type 0
 IsRefused input (Lexical at) = FaultsAt (source_part input) (BadByte at)
 IsRefused input (Number at) = FaultsAt (source_part input) (BadNumber at)
-IsRefused input Later = HasTokens input
+IsRefused input Later = AsksForNoRun input
 
--- the input asks for a run of this program within this limit
-pub record AsksFor (input : List ℕ) (program : Program) (limit : ℕ) : Type 0 where
-  pub lexed : HasTokens input
-  pub form : IsFirstForm program
-  pub limited : IsLimitLine (second_part input) limit
+-- the board of a run that the input asks for: it has ended, its history is a serial run of the program, and what its
+-- memory stands for is where that leads
+pub record IsRunOf (input : List ℕ) (run : Whole) : Type 0 where
+  pub asked : AsksFor input run.program run.limit
+  pub ended : IsEnded run
+  pub serial : SerialRun run.program run.device.history
+  pub stands : StandsFor run.program run.device.memory run.device.history
 
 -- the answer of a command to an input: its status, its text, and the board of the run where one was made
 pub data Answers (command : Command) (input : List ℕ) (status : Status) (text : List ℕ) (board : Option Whole) : Type 0 where
   refused : (refusal : Refusal) → IsRefused input refusal
       → status ≡ Refused → text ≡ refusal_text refusal → board ≡ None → Answers command input status text board
-  ran : (run : Whole) → AsksFor input run.program run.limit → IsEnded run
+  ran : (run : Whole) → IsRunOf input run
       → status ≡ Ok → text ≡ board_text run → board ≡ Some run → Answers command input status text board

@@ -4,6 +4,8 @@ pub mod Codes
 pub mod Divided
 pub mod Ended
 pub mod FormParts
+pub mod FormText
+pub mod Lexeme
 pub mod LimitLine
 pub mod Printed
 pub mod Refusal

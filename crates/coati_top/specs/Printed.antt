@@ -17,7 +17,7 @@ use Rattle.coati_board.specs.declared.history.End.{End}
 use Rattle.coati_board.specs.declared.history.End.TheVariants as ended
 use Rattle.coati_board.specs.Board.{Whole}
 use Rattle.coati_board.specs.History.{readings_in}
-use Rattle.coati_board.specs.StandsFor.{committed_word}
+use Rattle.coati_board.specs.SerialRun.{stand_of}
 
 -- the name of the scalar that is this variable word
 abbrev pub variable_name : Program → ℕ → List ℕ
@@ -70,7 +70,7 @@ abbrev pub printed_text : Program → List Mark → List Reading → Store → L
 printed_text program marks readings store =
     codes "coati split\n" ++ mark_lines program readings marks ++ variable_lines 0 program.vars store ++ codes "held 0\n"
 
--- the text of a board: its history, and the words that its memory stands for
+-- the text of a board: its history, and the words to which the serial run of its history leads
 abbrev pub board_text : Whole → List ℕ
 board_text board =
-    printed_text board.program board.device.history.marks board.device.history.readings (committed_word board.device.memory)
+    printed_text board.program board.device.history.marks board.device.history.readings (stand_of board.program board.device.history).store

@@ -1,9 +1,12 @@
-ghost use Rattle.std.specs.Prelude.{◌≡◌, ◌<◌, ◌≤◌, length, OnOk, IfSome};
-ghost use Rattle.std.specs.Bool.{OnTrue};
+ghost use Rattle.std.specs.Prelude.{◌≡◌, ◌≢◌, ℕ, ◌≤◌, ◌<◌, ◌↔◌, List, [], ◌∷◌, length, drop, slice_range, IsTrue, IsOk, OnOk, IfOk, IfErr, MatchOption, Some, None, Ok};
+ghost use Rattle.coati_top.specs.FormText.{Gives};
+ghost use Rattle.coati_top.specs.Lexeme.{Lexeme, lexemes, IsAt, IsAtName, IsAtSign, first_join, join_of};
+ghost use Rattle.coati_top.specs.declared.form_reader.FormFault.TheVariants as fault;
 
 use coati_word::{Op, OutOfMemory};
 use std::alloc::Global;
-use task_lex::{Symbol, Token, TokenKind};
+use std::marker::Model;
+use task_lex::{Keyword, Symbol, Token, TokenKind};
 use task_syntax::{Name, NameText};
 
 /// Why a source was not read.
@@ -14,140 +17,208 @@ pub(crate) enum FormFault {
     OutOfMemory,
 }
 
-impl From<OutOfMemory> for FormFault {
-    ghost use Rattle.std.specs.Prelude.{◌≡◌};
-    ghost use Rattle.coati_top.specs.declared.form_reader.FormFault.TheVariants as fault;
-
-    ghost from_gives = { λ _ e. e ≡ fault.OutOfMemory };
-
-    fn from(_: OutOfMemory) -> FormFault {
-        FormFault::OutOfMemory
-    }
-}
-
-/// The tokens of a source, read one after another.
+/// Reads tokens of a source one after another. A contract sees what is left to read.
 #[derive(Drop)]
 pub(crate) struct FormReader<'a> {
-    pub(crate) source: &'a [u8],
-    pub(crate) tokens: &'a [Token],
-    /// How many of the tokens were read.
-    pub(crate) at: usize,
-    ghost in_range: { at ≤ length tokens.now },
+    source: &'a [u8],
+    left: &'a [Token],
+}
+
+impl<'a> Model for FormReader<'a> {
+    ghost use Rattle.std.specs.Prelude.{List};
+    ghost use Rattle.coati_top.specs.Lexeme.{Lexeme, lexemes};
+
+    ghost Value = { List Lexeme };
+
+    ghost view = { λ reader. lexemes reader.source.now reader.left.now };
 }
 
 impl<'a> FormReader<'a> {
-    /// The token that comes next.
-    pub(crate) fn peek(&self) -> Option<TokenKind>
-        ensures { IfSome result (λ _. self.now.at < length self.now.tokens.now) }
+    pub(crate) fn new(source: &'a [u8], tokens: &'a [Token]) -> FormReader<'a>
+        ensures { result ≡ lexemes source.now tokens.now }
     {
-        self.tokens.get(self.at).map(|token| token.kind)
+        FormReader {
+            source,
+            left: tokens,
+        }
     }
 
     /// Whether all tokens were read.
-    pub(crate) fn is_at_end(&self) -> bool {
-        self.at == self.tokens.len()
+    pub(crate) fn is_at_end(&self) -> bool
+        ensures { IsTrue result ↔ (self.now ≡ []) }
+    {
+        self.left.is_empty()
     }
 
-    /// Reads the token where it is of this kind, and says whether it was.
-    pub(crate) fn skip(&mut self, kind: TokenKind) -> bool
-        ensures tokens { self.new.tokens.now ≡ self.old.tokens.now }
-        ensures forward { self.old.at ≤ self.new.at }
-        ensures read { OnTrue result (self.old.at < self.new.at) }
+    /// Whether this word comes next.
+    pub(crate) fn is_at(&self, keyword: Keyword) -> bool
+        ensures { IsTrue result ↔ IsAt keyword self.now }
     {
-        match self.peek() {
-            Some(next) if next == kind => {
-                self.at += 1;
-                true
-            }
-            _ => false,
+        match self.left {
+            [token, ..] => is_kind(token.kind, TokenKind::Keyword(keyword)),
+            [] => false,
         }
     }
 
-    /// Reads a token of this kind.
-    pub(crate) fn expect(&mut self, kind: TokenKind) -> Result<(), FormFault>
-        ensures tokens { self.new.tokens.now ≡ self.old.tokens.now }
-        ensures forward { self.old.at ≤ self.new.at }
-        ensures read { OnOk result (self.old.at < self.new.at) }
+    /// Whether a name comes next.
+    pub(crate) fn is_at_name(&self) -> bool
+        ensures { IsTrue result ↔ IsAtName self.now }
     {
-        if self.skip(kind) {
-            Ok(())
-        } else {
-            Err(FormFault::Later)
+        match self.left {
+            [token, ..] => is_kind(token.kind, TokenKind::Name),
+            [] => false,
         }
     }
 
-    /// Reads any token.
-    fn any(&mut self) -> Result<Token, FormFault>
-        ensures tokens { self.new.tokens.now ≡ self.old.tokens.now }
-        ensures forward { self.old.at ≤ self.new.at }
-        ensures read { OnOk result (self.old.at < self.new.at) }
+    /// Whether this sign comes next.
+    pub(crate) fn is_at_sign(&self, symbol: Symbol) -> bool
+        ensures { IsTrue result ↔ IsAtSign symbol self.now }
     {
-        match self.tokens.get(self.at) {
-            Some(token) => {
-                self.at += 1;
-                Ok(*token)
+        match self.left {
+            [token, ..] => is_kind(token.kind, TokenKind::Symbol(symbol)),
+            [] => false,
+        }
+    }
+
+    /// Reads this word, and gives its place.
+    pub(crate) fn word(&mut self, keyword: Keyword) -> Result<u32, FormFault>
+        ensures read { IfOk result (λ at. self.old ≡ Lexeme.word keyword at ∷ self.new) }
+        ensures only { (at : ℕ) (rest : List Lexeme) → self.old ≡ Lexeme.word keyword at ∷ rest
+            → (result ≡ Ok at) × (self.new ≡ rest) }
+        ensures shrinks { OnOk result (length self.new < length self.old) }
+        ensures shorter { length self.new ≤ length self.old }
+    {
+        match self.left {
+            [token, rest @ ..] if is_kind(token.kind, TokenKind::Keyword(keyword)) => {
+                self.left = rest;
+                Ok(token.start)
             }
-            None => Err(FormFault::Later),
+            _ => Err(FormFault::Later),
+        }
+    }
+
+    /// Reads this sign.
+    pub(crate) fn sign(&mut self, symbol: Symbol) -> Result<(), FormFault>
+        ensures read { OnOk result (self.old ≡ Lexeme.sign symbol ∷ self.new) }
+        ensures only { (rest : List Lexeme) → self.old ≡ Lexeme.sign symbol ∷ rest
+            → IsOk result × (self.new ≡ rest) }
+        ensures shorter { length self.new ≤ length self.old }
+    {
+        match self.left {
+            [token, rest @ ..] if is_kind(token.kind, TokenKind::Symbol(symbol)) => {
+                self.left = rest;
+                Ok(())
+            }
+            _ => Err(FormFault::Later),
         }
     }
 
     /// Reads a name.
     pub(crate) fn name(&mut self, alloc: Global) -> Result<Name, FormFault>
-        ensures tokens { self.new.tokens.now ≡ self.old.tokens.now }
-        ensures forward { self.old.at ≤ self.new.at }
-        ensures read { OnOk result (self.old.at < self.new.at) }
+        ensures read { IfOk result (λ name. self.old ≡ Lexeme.name name ∷ self.new) }
+        ensures only { (name : Name) (rest : List Lexeme) → self.old ≡ Lexeme.name name ∷ rest
+            → Gives result name self.new rest }
+        ensures shrinks { OnOk result (length self.new < length self.old) }
+        ensures shorter { length self.new ≤ length self.old }
     {
-        let token = self.any()?;
-        if token.kind != TokenKind::Name {
-            return Err(FormFault::Later);
-        }
-        let text = self.source.get(token.start as usize..token.end as usize);
-        let text = NameText::from_slice(alloc, text.unwrap_or(&[]))?;
-        Ok(Name {
-            text,
-            at: token.start,
-        })
-    }
-
-    /// Reads the operator that joins two operands, where one comes next.
-    pub(crate) fn join(&mut self) -> Option<Op>
-        ensures tokens { self.new.tokens.now ≡ self.old.tokens.now }
-        ensures forward { self.old.at ≤ self.new.at }
-    {
-        if self.skip(TokenKind::Symbol(Symbol::Plus)) {
-            Some(Op::Add)
-        } else if self.skip(TokenKind::Symbol(Symbol::Minus)) {
-            Some(Op::Sub)
-        } else if self.skip(TokenKind::Symbol(Symbol::Below)) {
-            Some(Op::Lt)
-        } else {
-            None
+        match self.left {
+            [token, rest @ ..] if is_kind(token.kind, TokenKind::Name) => {
+                let name = name_at(alloc, self.source, token.start, token.end)?;
+                self.left = rest;
+                Ok(name)
+            }
+            _ => Err(FormFault::Later),
         }
     }
 
     /// Reads a number.
     pub(crate) fn number(&mut self) -> Result<u16, FormFault>
-        ensures tokens { self.new.tokens.now ≡ self.old.tokens.now }
-        ensures forward { self.old.at ≤ self.new.at }
-        ensures read { OnOk result (self.old.at < self.new.at) }
+        ensures read { IfOk result (λ value. self.old ≡ Lexeme.number value ∷ self.new) }
+        ensures only { (value : ℕ) (rest : List Lexeme) → self.old ≡ Lexeme.number value ∷ rest
+            → (result ≡ Ok value) × (self.new ≡ rest) }
+        ensures shorter { length self.new ≤ length self.old }
     {
-        match self.any()?.kind {
-            TokenKind::Number(value) => Ok(value),
-            _ => Err(FormFault::Later),
+        match self.left {
+            [token, rest @ ..] => match token.kind {
+                TokenKind::Number(value) => {
+                    self.left = rest;
+                    Ok(value)
+                }
+                _ => Err(FormFault::Later),
+            },
+            [] => Err(FormFault::Later),
         }
     }
 
-    /// Reads a keyword, and gives its place in the source.
-    pub(crate) fn place_of(&mut self, kind: TokenKind) -> Result<u32, FormFault>
-        ensures tokens { self.new.tokens.now ≡ self.old.tokens.now }
-        ensures forward { self.old.at ≤ self.new.at }
-        ensures read { OnOk result (self.old.at < self.new.at) }
+    /// Reads the operator that comes next, if one does.
+    pub(crate) fn join(&mut self) -> Option<Op>
+        ensures read { MatchOption result ((self.new ≡ self.old) × (first_join self.old ≡ None))
+            (λ op. (symbol : Symbol) × (self.old ≡ Lexeme.sign symbol ∷ self.new) × (join_of symbol ≡ Some op)) }
+        ensures shorter { length self.new ≤ length self.old }
     {
-        let token = self.any()?;
-        if token.kind == kind {
-            Ok(token.start)
-        } else {
-            Err(FormFault::Later)
+        match self.left {
+            [token, rest @ ..] => match token.kind {
+                TokenKind::Symbol(symbol) => {
+                    let op = join_of(symbol)?;
+                    self.left = rest;
+                    Some(op)
+                }
+                _ => None,
+            },
+            [] => None,
         }
+    }
+}
+
+fn is_kind(kind: TokenKind, wanted: TokenKind) -> bool
+    ensures { IsTrue result ↔ (kind ≡ wanted) }
+{
+    kind == wanted
+}
+
+/// The operator that a sign stands for between operands.
+fn join_of(symbol: Symbol) -> Option<Op>
+    ensures { result ≡ join_of symbol }
+{
+    match symbol {
+        Symbol::Plus => Some(Op::Add),
+        Symbol::Minus => Some(Op::Sub),
+        Symbol::Below => Some(Op::Lt),
+        _ => None,
+    }
+}
+
+/// The name that stands between two places of the source.
+fn name_at(alloc: Global, source: &[u8], start: u32, end: u32) -> Result<Name, FormFault>
+    ensures name { IfOk result (λ name. name ≡ record { text = slice_range source.now start end; at = start }) }
+    ensures memory { IfErr result (λ refused. refused ≡ fault.OutOfMemory) }
+{
+    let text = part(source, start as usize, end as usize);
+    match NameText::from_slice(alloc, text) {
+        Ok(text) => Ok(Name { text, at: start }),
+        Err(_) => Err(FormFault::OutOfMemory),
+    }
+}
+
+/// What stands between two places of a text, as far as it reaches.
+fn part(text: &[u8], start: usize, end: usize) -> &[u8]
+    ensures { result.now ≡ slice_range text.now start end }
+{
+    let from = behind(text, start);
+    let len = end.saturating_sub(start);
+    if len <= from.len() {
+        &from[..len]
+    } else {
+        from
+    }
+}
+
+fn behind(text: &[u8], start: usize) -> &[u8]
+    ensures { result.now ≡ drop start text.now }
+{
+    if start <= text.len() {
+        &text[start..]
+    } else {
+        &[]
     }
 }

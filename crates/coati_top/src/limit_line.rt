@@ -31,7 +31,8 @@ fn only_line(text: &[u8]) -> Option<&[u8]>
 fn limit_in(line: &[u8]) -> Option<u32>
     ensures found { IfSome result (λ limit. line.now ≡ codes "limit " ++ decimal limit) }
     ensures within { IfSome result (λ limit. limit ≤ EXECUTOR_STEPS) }
-    ensures only { (limit : ℕ) → limit ≤ EXECUTOR_STEPS → line.now ≡ codes "limit " ++ decimal limit → result ≡ Some limit }
+    ensures only { (limit : ℕ) → limit ≤ EXECUTOR_STEPS → line.now ≡ codes "limit " ++ decimal limit
+        → result ≡ Some limit }
 {
     let mut cursor = Cursor {
         bytes: line.strip_prefix(b"limit ")?,

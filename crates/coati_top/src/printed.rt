@@ -2,7 +2,8 @@ ghost use Rattle.std.specs.Prelude.{◌≡◌, ◌<◌, ◌∷◌, [], ◌++◌,
 ghost use Rattle.std.specs.List.{Any};
 ghost use Rattle.coati_board.specs.History.{HasRecord, readings_in};
 ghost use Rattle.coati_board.specs.declared.history.MarkKind.{MarkKind};
-ghost use Rattle.coati_board.specs.StandsFor.{committed_word};
+ghost use Rattle.coati_board.specs.SerialRun.{SerialRun, stand_of};
+ghost use Rattle.coati_board.specs.Sound.{StandsFor};
 ghost use Rattle.coati_top.specs.Printed.{variable_name, task_name, reading_text, unit_text, end_text, mark_text, commit_text, mark_lines, variable_text, variable_lines, board_text};
 
 use coati_board::{Board, End, History, MarkKind, Record, Unit};
@@ -146,9 +147,9 @@ fn put_variable(out: &mut Vec<u8>, name: &[u8], value: u16) -> Result<(), OutOfM
     put(out, b"\n")
 }
 
-/// Appends a line for each variable, with its committed value.
+/// Appends a line for each variable, with its committed value, which is that of the serial run.
 fn put_variables(out: &mut Vec<u8>, board: &Board) -> Result<(), OutOfMemory>
-    ensures { OnOk result (out.new.items ≡ out.old.items ++ variable_lines 0 board.now.program.vars (committed_word board.now.device.memory)) }
+    ensures { OnOk result (out.new.items ≡ out.old.items ++ variable_lines 0 board.now.program.vars (stand_of board.now.program board.now.device.history).store) }
 {
     let _words = board.words();
     for (word, var) in board.program().vars.as_slice().iter().enumerate() {
@@ -159,7 +160,9 @@ fn put_variables(out: &mut Vec<u8>, board: &Board) -> Result<(), OutOfMemory>
 
 /// The printed text of a run that was closed.
 pub(crate) fn printed(alloc: Global, board: &Board) -> Result<Vec<u8>, OutOfMemory>
-    ensures { IfOk result (λ text. text.items ≡ board_text board.now) }
+    ensures text { IfOk result (λ text. text.items ≡ board_text board.now) }
+    ensures serial { OnOk result (SerialRun board.now.program board.now.device.history) }
+    ensures stands { OnOk result (StandsFor board.now.program board.now.device.memory board.now.device.history) }
 {
     let mut out = Vec::from_slice(alloc, b"coati split\n").map_err(|_| OutOfMemory)?;
     put_marks(&mut out, board.program(), board.history())?;

@@ -1,4 +1,4 @@
-ghost use Rattle.std.specs.Prelude.{◌≤◌, length, IfOk, IfErr};
+ghost use Rattle.std.specs.Prelude.{◌≡◌, ◌≤◌, List, length, IfOk, IfErr};
 ghost use Rattle.coati_top.specs.Answer.{AsksFor};
 ghost use Rattle.coati_top.specs.RunFault.{Explains, ExplainsSource};
 ghost use Rattle.task_lex.specs.Reading.{Tokens};
@@ -49,6 +49,7 @@ pub(crate) fn read_run(alloc: Global, input: &[u8]) -> Result<RunInput, RunFault
 fn tokens_of(alloc: Global, source: &[u8]) -> Result<Vec<Token>, RunFault>
     requires { length source.now ≤ 262144 }
     ensures tokens { IfOk result (λ tokens. Tokens source.now tokens.items) }
+    ensures only { (tokens : List Token) → Tokens source.now tokens → IfOk result (λ read. tokens ≡ read.items) }
     ensures fault { IfErr result (ExplainsSource source.now) }
 {
     match lex(alloc, source) {

@@ -1,9 +1,8 @@
 use Rattle.std.proofs.Common.{◌≡◌, refl, ap, ◌∙◌, sym, subst}
 use Rattle.coati_board.specs.Board.{Whole}
-use Rattle.coati_board.specs.FirstForm.{IsFirstForm}
+use Rattle.task_syntax.specs.declared.program.Program.{Program}
+use Rattle.coati_top.specs.Answer.{AsksFor}
 use Rattle.coati_top.specs.Answer.Answers.{ran}
-use Rattle.coati_top.specs.Divided.{second_part}
-use Rattle.coati_top.specs.LimitLine.{IsLimitLine}
 use Rattle.coati_top.proofs.answer.ran.Goals as goal
 
 pub returns : goal.returns
@@ -12,8 +11,10 @@ returns c =
     let limit = c.run_to_end.ensures.limit ∙ ap (λ (b : Whole). b.limit) c.in_ok-board.ensures in
     ran c.run_to_end.new.board
     (record {
-      lexed = c.requires.lexed;
-      form = subst IsFirstForm (sym program) c.requires.form;
-      limited = subst (IsLimitLine (second_part c.args.input.now)) (sym limit) c.requires.limited;
+      asked = subst (λ (p : Program). AsksFor c.args.input.now p c.run_to_end.new.board.limit) (sym program)
+          (rw limit c.requires);
+      ended = c.run_to_end.ensures.ended;
+      serial = c.in_ok-text.ensures.serial;
+      stands = c.in_ok-text.ensures.stands;
     })
-    c.run_to_end.ensures.ended refl c.in_ok-text.ensures refl
+    refl c.in_ok-text.ensures.text refl

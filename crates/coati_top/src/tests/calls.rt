@@ -1,0 +1,183 @@
+use crate::{Status, coati_still};
+use coati_io::{MemSink, MemSource};
+use std::alloc::Global;
+use std::test::Fail;
+
+const COUNTING: &str =
+    "nv n = 0; task main { n = n + 1; if n < 3 { next main; } else { halt; } }\n%%\n";
+
+const FIRST: &str = "commit task main reads n=0 n=1\n";
+
+const SECOND: &str = "commit task main reads n=1 n=2\n";
+
+const THIRD: &str = "commit task main reads n=2 n=3\n";
+
+const USAGE: &str = "usage: coati check | dump | run MODE | live MODE | replay MODE | gen N\n";
+
+/// An end of a call: the most bytes that it moves at once, and the calls that fail.
+#[derive(Clone, Copy)]
+struct Edge<'a> {
+    piece: usize,
+    fails: &'a [u32],
+}
+
+const AMPLE: Edge<'static> = Edge {
+    piece: 4096,
+    fails: &[],
+};
+
+/// The status of a call on this input, and what it wrote.
+fn call(
+    alloc: Global,
+    words: &[&str],
+    input: &[u8],
+    source: Edge<'_>,
+    sink: Edge<'_>,
+) -> Result<(Status, Vec<u8>), Fail> {
+    let mut given = Vec::new(alloc);
+    for word in words {
+        given.push(String::from_str(alloc, word)?)?;
+    }
+    let bytes = Vec::from_slice(alloc, input)?;
+    let fails = Vec::from_slice(alloc, source.fails)?;
+    let mut source = MemSource::new(bytes, source.piece.max(1), fails);
+    let fails = Vec::from_slice(alloc, sink.fails)?;
+    let mut sink = MemSink::new(alloc, sink.piece.max(1), fails);
+    sink.reserve(65536)?;
+    let done = coati_still(alloc, &given, &mut source, &mut sink);
+    Ok((done.status, Vec::from_slice(alloc, sink.taken())?))
+}
+
+#[test]
+fn counting_to_three_makes_three_commits(rt: HostRuntime) -> Result<(), Fail> {
+    let alloc = rt.alloc();
+    let table = [
+        (1000, THIRD, "end idle", 3),
+        (29, THIRD, "end idle", 3),
+        (28, THIRD, "end limit", 3),
+        (25, THIRD, "end limit", 3),
+        (24, "", "end limit", 2),
+    ];
+    for (limit, third, end, n) in table {
+        let input = format!(in alloc; "{COUNTING}limit {limit}\n")?;
+        let text = format!(in alloc;
+            "coati split\n{FIRST}{SECOND}{third}{end}\nvar n {n}\nheld 0\n"
+        )?;
+        let answer = call(alloc, &["run", "split"], input.as_bytes(), AMPLE, AMPLE)?;
+        assert_eq!(rt; answer.0, Status::Ok, "limit {limit}");
+        assert_eq!(rt; answer.1.as_slice(), text.as_bytes(), "limit {limit}");
+    }
+    Ok(())
+}
+
+#[test]
+fn other_words_are_answered_with_the_usage(rt: HostRuntime) -> Result<(), Fail> {
+    let table = [
+        [].as_slice(),
+        ["run"].as_slice(),
+        ["run", "buffi"].as_slice(),
+        ["run", "split", "now"].as_slice(),
+        ["walk", "split"].as_slice(),
+    ];
+    for words in table {
+        let answer = call(rt.alloc(), words, b"", AMPLE, AMPLE)?;
+        assert_eq!(rt; answer.0, Status::Usage);
+        assert_eq!(rt; answer.0.code(), 2);
+        assert_eq!(rt; answer.1.as_slice(), USAGE.as_bytes());
+    }
+    Ok(())
+}
+
+#[test]
+fn other_inputs_are_refused(rt: HostRuntime) -> Result<(), Fail> {
+    let table = [
+        ("", "refused later\n"),
+        ("nv $n; task m { halt; }", "refused lexical 3\n"),
+        ("nv n; task m { n = 65536; halt; }", "refused number 19\n"),
+        ("nv n; task m { halt; }", "refused later\n"),
+        (
+            "nv n; task m { halt; }\n%%\nlimit 500001",
+            "refused later\n",
+        ),
+        (
+            "nv n; task m { halt; }\n%%\nlimit 9\nlimit 9",
+            "refused later\n",
+        ),
+        (
+            "nv n; task m { m = 1; halt; }\n%%\nlimit 9",
+            "refused later\n",
+        ),
+        ("nv n; task m { next n; }\n%%\nlimit 9", "refused later\n"),
+        (
+            "nv n; nv n; task m { halt; }\n%%\nlimit 9",
+            "refused later\n",
+        ),
+        (
+            "nv n; task m { n = n * 2; halt; }\n%%\nlimit 9",
+            "refused later\n",
+        ),
+        ("nv a[2]; task m { halt; }\n%%\nlimit 9", "refused later\n"),
+        ("task m { halt; }\n%%\nlimit 9", "refused later\n"),
+    ];
+    for (input, text) in table {
+        let answer = call(
+            rt.alloc(),
+            &["run", "split"],
+            input.as_bytes(),
+            AMPLE,
+            AMPLE,
+        )?;
+        assert_eq!(rt; answer.0, Status::Refused, "{input}");
+        assert_eq!(rt; answer.1.as_slice(), text.as_bytes(), "{input}");
+    }
+    Ok(())
+}
+
+#[test]
+fn failures_are_told(rt: HostRuntime) -> Result<(), Fail> {
+    let alloc = rt.alloc();
+    let input = format!(in alloc; "{COUNTING}limit 1000\n")?;
+    let table = [
+        (30, [1].as_slice(), 10, [].as_slice(), Status::ReadFault, ""),
+        (30, [2].as_slice(), 10, [].as_slice(), Status::ReadFault, ""),
+        (
+            30,
+            [].as_slice(),
+            10,
+            [2].as_slice(),
+            Status::WriteFault,
+            "coati spli",
+        ),
+    ];
+    for (piece, fails, taken, stops, status, text) in table {
+        let source = Edge { piece, fails };
+        let sink = Edge {
+            piece: taken,
+            fails: stops,
+        };
+        let answer = call(alloc, &["run", "split"], input.as_bytes(), source, sink)?;
+        assert_eq!(rt; answer.0, status);
+        assert_eq!(rt; answer.1.as_slice(), text.as_bytes());
+    }
+    Ok(())
+}
+
+#[test]
+fn the_greatest_input_is_read(rt: HostRuntime) -> Result<(), Fail> {
+    let alloc = rt.alloc();
+    let run = format!(in alloc; "{COUNTING}limit 1000\n")?;
+    for (len, status) in [(262_144, Status::Ok), (262_145, Status::TooLarge)] {
+        assert!(rt; run.len() <= len);
+        let mut input = vec![in alloc; b' '; len - run.len()]?;
+        input.extend_from_slice(run.as_bytes())?;
+        let answer = call(alloc, &["run", "split"], &input, AMPLE, AMPLE)?;
+        assert_eq!(rt; answer.0, status, "{len} bytes");
+        let begins = if len == 262_144 {
+            "coati split\n"
+        } else {
+            "input too large\n"
+        };
+        assert!(rt; answer.1.starts_with(begins.as_bytes()), "{len} bytes");
+    }
+    Ok(())
+}

@@ -72,12 +72,12 @@ fn counting_to_three_makes_three_commits(rt: HostRuntime) -> Result<(), Fail> {
 
 #[test]
 fn other_words_are_answered_with_the_usage(rt: HostRuntime) -> Result<(), Fail> {
-    let table = [
-        [].as_slice(),
-        ["run"].as_slice(),
-        ["run", "buffi"].as_slice(),
-        ["run", "split", "now"].as_slice(),
-        ["walk", "split"].as_slice(),
+    let table: [&[&str]; 5] = [
+        &[],
+        &["run"],
+        &["run", "buffi"],
+        &["run", "split", "now"],
+        &["walk", "split"],
     ];
     for words in table {
         let answer = call(rt.alloc(), words, b"", AMPLE, AMPLE)?;

@@ -9,10 +9,10 @@ use Rattle.coati_top.specs.declared.status.Status.TheVariants.{Ok, WriteFault, T
 use Rattle.coati_top.specs.Answer.{Answers}
 use Rattle.coati_top.specs.Answer.Answers.{refused, ran}
 use Rattle.coati_top.specs.Refusal.{too_large_text}
-use Rattle.coati_top.specs.Call.{Edge, Failed, WritesAll, WritesFront, Writes, Answered, Explains, after_fault, Delivers, AnswersTo, input_limit}
+use Rattle.coati_top.specs.Call.{InputEdge, OutputEdge, WritesAll, WritesFront, Writes, Answered, Explains, after_fault, Delivers, AnswersTo, input_limit}
 use Rattle.coati_top.specs.Call.AnswersTo.{delivered, starved}
 
-module _ (command : Command) (input output : Edge) (board : Option Whole) where
+module _ (command : Command) (input : InputEdge) (output : OutputEdge) (board : Option Whole) where
   -- an explanation at the status that it is
   explained_at : (status known : Status) → status ≡ known → Explains command known input output board → Explains command status input output board
   explained_at status known is explains = subst (λ (s : Status). Explains command s input output board) (sym is) explains
@@ -36,13 +36,13 @@ module _ (command : Command) (input output : Edge) (board : Option Whole) where
         (answered before Refused text (Writes output) is (refused refusal cause is text_is none) (inl all.1))
     explains_delivered status before text (refused refusal cause is text_is none) (inr front) =
         explained_at status Refused (front.0 ∙ ap after_fault is)
-        (answered before Refused text (Writes output) is (refused refusal cause is text_is none) (inr (front.1, front.2)))
+        (answered before Refused text (Writes output) is (refused refusal cause is text_is none) (inr front.1))
     explains_delivered status before text (ran run made is text_is some) (inl all) =
         explained_at status Ok (all.0 ∙ is)
         (answered before Ok text (WritesAll output) is (ran run made is text_is some) all.1)
     explains_delivered status before text (ran run made is text_is some) (inr front) =
         explained_at status WriteFault (front.0 ∙ ap after_fault is)
-        (front.1, answered before Ok text (WritesFront output) is (ran run made is text_is some) front.2)
+        (answered before Ok text (WritesFront output) is (ran run made is text_is some) front.1)
 
     pub explains_answer : (status : Status) → AnswersTo command bytes status output board → Explains command status input output board
     explains_answer status (delivered before text answers delivers) = explains_delivered status before text answers delivers
@@ -51,4 +51,4 @@ module _ (command : Command) (input output : Edge) (board : Option Whole) where
   pub explains_too_large : (status : Status) → ConsumesExactly input.old input.new (input_limit + 1)
       → Delivers TooLarge status output too_large_text → board ≡ None → Explains command status input output board
   explains_too_large status consumed (inl all) none = explained_at status TooLarge all.0 (consumed, inl all.1, none)
-  explains_too_large status consumed (inr front) none = explained_at status TooLarge front.0 (consumed, inr (front.1, front.2), none)
+  explains_too_large status consumed (inr front) none = explained_at status TooLarge front.0 (consumed, inr front.1, none)

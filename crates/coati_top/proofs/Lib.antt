@@ -1,4 +1,5 @@
 pub mod Beginnings
+pub mod Completing
 pub mod Dividers
 pub mod Explaining
 pub mod Forms

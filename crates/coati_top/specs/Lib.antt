@@ -1,6 +1,7 @@
 pub mod Answer
 pub mod Call
 pub mod Codes
+pub mod Complete
 pub mod Divided
 pub mod Ended
 pub mod FormParts

@@ -1,5 +1,6 @@
 ghost use Rattle.std.specs.Prelude.{◌≡◌, ◌≤◌, length, map, string_bytes, None, Some};
-ghost use Rattle.coati_top.specs.Call.{edge_of, after_fault, Explained, Delivers, AnswersTo};
+ghost use Rattle.coati_top.specs.Call.{input_edge, output_edge, after_fault, Explained, Explains, Delivers, AnswersTo};
+ghost use Rattle.coati_top.specs.Complete.{Completes, IsSteadyInput};
 ghost use Rattle.coati_top.specs.Words.{command_of};
 
 use crate::answer::{Reply, answer_to};
@@ -7,6 +8,7 @@ use crate::{Command, Done, Status, command_of};
 use coati_io::{ReadEnd, Sink, Source, read_all, write_all};
 use coati_word::limits::INPUT_BYTES;
 use std::alloc::Global;
+use task_lex::each_source_has_one_answer;
 
 /// Does what the words say, from the input to the output. It returns, whatever these do.
 pub fn coati_still<S: Source, K: Sink>(
@@ -15,9 +17,13 @@ pub fn coati_still<S: Source, K: Sink>(
     input: &mut S,
     output: &mut K,
 ) -> Done
-    ensures { Explained (command_of (map string_bytes words.now)) result.status
-        (edge_of S.left S.faults input.old input.new) (edge_of K.taken K.faults output.old output.new) result.board }
+    ensures explained { Explained (command_of (map string_bytes words.now)) result.status
+        (input_edge S.left S.faults input.old input.new) (output_edge K.taken K.faults K.spare output.old output.new) result.board }
+    ensures complete { Completes (command_of (map string_bytes words.now)) result.status
+        (input_edge S.left S.faults input.old input.new) (output_edge K.taken K.faults K.spare output.old output.new) }
+    ensures steady { S.sound input.old → IsSteadyInput result.status (input_edge S.left S.faults input.old input.new) }
 {
+    each_source_has_one_answer();
     match command_of(words) {
         None => Done {
             status: deliver(output, Status::Usage, USAGE),
@@ -31,8 +37,9 @@ const USAGE: &[u8] = b"usage: coati check | dump | run MODE | live MODE | replay
 
 /// Does what a command says.
 fn run<S: Source, K: Sink>(alloc: Global, command: Command, input: &mut S, output: &mut K) -> Done
-    ensures { Explained (Some command) result.status
-        (edge_of S.left S.faults input.old input.new) (edge_of K.taken K.faults output.old output.new) result.board }
+    ensures explained { Explains command result.status
+        (input_edge S.left S.faults input.old input.new) (output_edge K.taken K.faults K.spare output.old output.new) result.board }
+    ensures steady { S.sound input.old → IsSteadyInput result.status (input_edge S.left S.faults input.old input.new) }
 {
     match read_all(alloc, input, INPUT_BYTES) {
         Ok(bytes) => answer(alloc, command, &bytes, output),
@@ -47,7 +54,7 @@ fn run<S: Source, K: Sink>(alloc: Global, command: Command, input: &mut S, outpu
 /// Answers to all that was read.
 fn answer<K: Sink>(alloc: Global, command: Command, bytes: &[u8], output: &mut K) -> Done
     requires { length bytes.now ≤ 262144 }
-    ensures { AnswersTo command bytes.now result.status (edge_of K.taken K.faults output.old output.new) result.board }
+    ensures { AnswersTo command bytes.now result.status (output_edge K.taken K.faults K.spare output.old output.new) result.board }
 {
     match answer_to(alloc, command, bytes) {
         Ok(
@@ -76,7 +83,7 @@ fn without_board(status: Status) -> Done
 
 /// Writes the text that belongs to a status. Where that fails, `Ok` becomes a write fault, and another status stays.
 fn deliver<K: Sink>(output: &mut K, status: Status, text: &[u8]) -> Status
-    ensures { Delivers status result (edge_of K.taken K.faults output.old output.new) text.now }
+    ensures { Delivers status result (output_edge K.taken K.faults K.spare output.old output.new) text.now }
 {
     match write_all(output, text) {
         Ok(()) => status,

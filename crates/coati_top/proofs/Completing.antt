@@ -1,0 +1,73 @@
+-- Why an undisturbed call on an input that is served succeeds: each other status has a cause that it rules out.
+use Rattle.std.proofs.Common.{◌≡◌, ℕ, ◌+◌, ◌≤◌, List, [], ◌++◌, length, Some, None, IfSome, refl, sym, ap, ◌∙◌, subst, inl, inr, append-nil, length-append, arith}
+use Rattle.std.specs.Prelude.{Option}
+use Rattle.std.specs.Io.KnownBytes.{Consumes, IsAtEnd}
+use Rattle.task_lex.specs.Reading.{Tokens, FaultsAt}
+use Rattle.task_lex.specs.declared.fault.LexFault.{LexFault}
+use Rattle.task_lex.specs.declared.fault.LexFault.TheVariants.{BadByte, BadNumber}
+use Rattle.task_lex.specs.declared.token.Token.{Token}
+use Rattle.coati_io.specs.Ends.{ReadsWhole, ConsumesExactly}
+use Rattle.coati_board.specs.Board.{Whole}
+use Rattle.coati_top.specs.declared.command.Command.{Command}
+use Rattle.coati_top.specs.declared.refusal.Refusal.{Refusal}
+use Rattle.coati_top.specs.declared.refusal.Refusal.TheVariants.{Lexical, Number, Later}
+use Rattle.coati_top.specs.declared.status.Status.{Status}
+use Rattle.coati_top.specs.declared.status.Status.TheVariants.{Ok, Usage, ReadFault, WriteFault, TooLarge, Refused, BadTrace, Differs, OutOfMemory}
+use Rattle.coati_top.specs.Answer.{Answers, AsksFor, IsRefused}
+use Rattle.coati_top.specs.Answer.Answers.{refused, ran}
+use Rattle.coati_top.specs.Call.{InputEdge, OutputEdge, Explains, input_limit}
+use Rattle.coati_top.specs.Complete.{IsUndisturbed, IsServed, Succeeds}
+use Rattle.coati_top.specs.Divided.{source_part}
+use Rattle.task_syntax.specs.declared.program.Program.{Program}
+
+-- a source has no tokens beside a fault
+abbrev pub AreApart : Type 0
+AreApart = (source : List ℕ) (tokens : List Token) (fault : LexFault) → Tokens source tokens → FaultsAt source fault → ⊥
+
+-- an input that told of its bytes and was read to its end gave these
+whole_is_told : (old new : Option (List ℕ)) (max : ℕ) (bytes told : List ℕ) → old ≡ Some told → ReadsWhole old new max bytes → bytes ≡ told
+whole_is_told None new max bytes told is whole = absurd cc
+whole_is_told (Some left) None max bytes told is whole = absurd whole.consumed
+whole_is_told (Some left) (Some rest) max bytes told is whole =
+    let left_is : left ≡ told = cc in
+    let all : left ≡ bytes = whole.consumed ∙ ap (λ (l : List ℕ). bytes ++ l) whole.ended ∙ append-nil bytes in
+    sym all ∙ left_is
+
+-- an input that told of no more bytes than are accepted gave no more
+gives_no_more : (old new : Option (List ℕ)) (told : List ℕ) → old ≡ Some told → length told ≤ input_limit
+    → ConsumesExactly old new (input_limit + 1) → ⊥
+gives_no_more None new told is fits given = absurd cc
+gives_no_more (Some left) None told is fits given = given.consumed
+gives_no_more (Some left) (Some rest) told is fits given =
+    let left_is : told ≡ left = cc in
+    let parts : length told ≡ length given.bytes + length rest =
+    ap length (left_is ∙ given.consumed) ∙ length-append given.bytes rest in
+    absurd (omega (arith, fits, parts, given.count))
+
+module _ (apart : AreApart) (bytes : List ℕ) (program : Program) (limit : ℕ) (asked : AsksFor bytes program limit) where
+  -- an input that asks for a run is not refused
+  no_refusal : (refusal : Refusal) → IsRefused bytes refusal → ⊥
+  no_refusal (Lexical at) cause = apart (source_part bytes) asked.tokens (BadByte at) asked.read cause
+  no_refusal (Number at) cause = apart (source_part bytes) asked.tokens (BadNumber at) asked.read cause
+  no_refusal Later cause = cause.no_run program limit asked
+
+  no_answer : (command : Command) (text : List ℕ) (board : Option Whole) → Answers command bytes Refused text board → ⊥
+  no_answer command text board (refused refusal cause is text_is none) = no_refusal refusal cause
+  no_answer command text board (ran run made is text_is some) = absurd cc
+
+-- the status of an undisturbed call on an input that is served, by cases
+pub completes_explained : AreApart → (command : Command) (status : Status) (input : InputEdge) (output : OutputEdge) (board : Option Whole)
+    → Explains command status input output board → (bytes : List ℕ) → IsUndisturbed input output bytes → IsServed command bytes → Succeeds status
+completes_explained apart command Ok input output board why bytes calm served = inl refl
+completes_explained apart command Usage input output board why bytes calm served = absurd why
+completes_explained apart command ReadFault input output board why bytes calm served = absurd (calm.read why.0)
+completes_explained apart command WriteFault input output board why bytes calm served = absurd (calm.written why.written.failed)
+completes_explained apart command TooLarge input output board why bytes calm served =
+    absurd (gives_no_more input.old input.new bytes calm.told calm.fits why.0)
+completes_explained apart command Refused input output board why bytes calm served =
+    let same : why.bytes ≡ bytes = whole_is_told input.old input.new input_limit why.bytes bytes calm.told why.read in
+    absurd (no_answer apart bytes served.program served.limit served.asked command why.text board
+    (subst (λ (bs : List ℕ). Answers command bs Refused why.text board) same why.answers))
+completes_explained apart command BadTrace input output board why bytes calm served = absurd why
+completes_explained apart command Differs input output board why bytes calm served = absurd why
+completes_explained apart command OutOfMemory input output board why bytes calm served = inr refl

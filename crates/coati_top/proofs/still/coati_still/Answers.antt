@@ -1,0 +1,12 @@
+use Rattle.std.proofs.Common.{◌≡◌, map, string_bytes, Some, sym, ◌∙◌}
+use Rattle.coati_top.specs.Call.{input_edge, output_edge}
+use Rattle.coati_top.specs.Words.{command_of}
+use Rattle.coati_top.proofs.Completing.{completes_explained}
+use Rattle.coati_top.proofs.still.coati_still.Goals as goal
+
+pub returns-in-Some-clause-complete : goal.returns-in-Some-clause-complete
+returns-in-Some-clause-complete g c =
+    let input = input_edge g.S.Source.left g.S.Source.faults c.args.input.now c.run.new.input in
+    let output = output_edge g.K.Sink.taken g.K.Sink.faults g.K.Sink.spare c.args.output.now c.run.new.output in
+    let is : command_of (map string_bytes c.args.words.now) ≡ Some c.in-Some.command = sym c.command_of.ensures ∙ c.in-Some.is in
+    rw is (completes_explained c.each_source_has_one_answer.ensures.apart c.in-Some.command c.run.result.status input output c.run.result.board c.run.ensures.explained)

@@ -1,0 +1,14 @@
+pub mod Accepts
+pub mod Answering
+pub mod Completes
+pub mod Examples
+pub mod Expressions
+pub mod Follow
+pub mod Lists
+pub mod OneAnswer
+pub mod OneTree
+pub mod Parts
+pub mod Places
+pub mod Same
+pub mod Steps
+pub mod Tuned

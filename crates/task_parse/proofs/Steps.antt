@@ -1,0 +1,20 @@
+-- What was read behind a step was read before it.
+use Rattle.std.proofs.Common.{◌≡◌, List, [], ◌∷◌, ◌++◌, Result, Ok, Err, IfOk, ap, ◌∙◌}
+use Rattle.task_parse.specs.Machine.{Gives, Part, Spot, judge, seen}
+use Rattle.task_parse.specs.declared.fault.ParseFault.{ParseFault}
+
+-- with more to come behind it
+pub begun : {X : Type 0} (old mid new : Spot) (xs zs more : List Part) (r : Result X ParseFault)
+    → ((k : List Part) → judge old (xs ++ k) ≡ judge mid (zs ++ (more ++ k))) → Gives mid zs new (λ _. []) r
+    → Gives old xs new (λ _. more) r
+begun old mid new xs zs more (Ok x) e g = λ k. e k ∙ g (more ++ k)
+begun old mid new xs zs more (Err f) e g = λ k. ap (seen f) (e k) ∙ g (more ++ k)
+
+pub also : {X : Type 0} (P Q : X → Type 0) (r : Result X ParseFault) → ((x : X) → P x → Q x) → IfOk r P → IfOk r Q
+also P Q (Ok x) f h = f x h
+also P Q (Err e) f h = tt
+
+-- a list to which an item was added
+pub not_empty : {X : Type 0} (items : List X) (item : X) → items ++ item ∷ [] ≡ [] → ⊥
+not_empty [] item h = cc
+not_empty (x ∷ items) item h = cc

@@ -1,0 +1,45 @@
+use Rattle.std.proofs.Common.{rules, ◌∷◌, [], ap, ◌∙◌, subst, arith, append_assoc, append-nil}
+use Rattle.std.proofs.lemmas.Result.{err_from_is_err_and}
+use Rattle.task_lex.specs.declared.symbol.Symbol.TheVariants as sign
+use Rattle.task_parse.specs.Grammar as G
+use Rattle.task_parse.specs.Grammar.{Form, Reads}
+use Rattle.task_parse.specs.Lexeme.{Lexeme}
+use Rattle.task_parse.specs.Machine.{Part, seen}
+use Rattle.task_parse.proofs.Expressions as E
+use Rattle.task_parse.proofs.Parts as P
+use Rattle.task_parse.proofs.event.parameters.Goals as goal
+
+pub returns-then-not-is_at_name-clause-reads : goal.returns-then-not-is_at_name-clause-reads
+returns-then-not-is_at_name-clause-reads c = rw c.new-params.ensures G.no_params
+
+pub returns-in_err-first-clause-gives : goal.returns-in_err-first-clause-gives
+returns-in_err-first-clause-gives c =
+    let p = err_from_is_err_and c.from_residual.result c.from_residual.ensures.1 in
+    rw (p.1, p.2) (λ k. ap (seen c.in_err-first.field-0.0) (P.params_on c.args.c.now k (search rules)) ∙ c.in_err-first.ensures.gives (Part.Names ∷ k))
+
+pub more-init : goal.more-init
+more-init c = record {
+  reads = λ more rest d. rw (c.in_ok-push.ensures.ok, c.new-params.ensures) (E.from c.in_ok-first.ensures.reads (G.params d));
+  gives = λ k. P.params_on c.args.c.now k (search rules) ∙ c.in_ok-first.ensures.gives (Part.Names ∷ k);
+  shrinks = (let a = c.in_ok-first.ensures.shrinks in omega arith);
+}
+
+pub returns-in_err-sign-clause-gives : goal.returns-in_err-sign-clause-gives
+returns-in_err-sign-clause-gives c =
+    let p = err_from_is_err_and c.from_residual-in_err-sign.result c.from_residual-in_err-sign.ensures.1 in
+    rw (p.1, p.2) (λ k. ap (seen c.in_err-sign.field-0.0) (c.more.invariant.gives k ∙ P.names_on c.more.c k (search rules)) ∙ c.in_err-sign.ensures.gives (Part.AName ∷ Part.Names ∷ k))
+
+pub returns-in_err-param-clause-gives : goal.returns-in_err-param-clause-gives
+returns-in_err-param-clause-gives c =
+    let p = err_from_is_err_and c.from_residual-in_err-param.result c.from_residual-in_err-param.ensures.1 in
+    rw (p.1, p.2) (λ k. ap (seen c.in_err-param.field-0.0) (c.more.invariant.gives k ∙ P.names_on c.more.c k (search rules) ∙ c.in_ok-sign.ensures.gives (Part.AName ∷ Part.Names ∷ k)) ∙ c.in_err-param.ensures.gives (Part.Names ∷ k))
+
+pub more-preserved : goal.more-preserved
+more-preserved c = record {
+  reads = λ more rest d. rw (c.in_ok-push-2.ensures.ok, append_assoc) (c.more.invariant.reads (c.in_ok-param.param ∷ more) rest (E.from (c.in_ok-sign.ensures.reads ∙ ap (λ w. Lexeme.sign sign.Comma ∷ w) c.in_ok-param.ensures.reads) (G.names d)));
+  gives = λ k. c.more.invariant.gives k ∙ P.names_on c.more.c k (search rules) ∙ c.in_ok-sign.ensures.gives (Part.AName ∷ Part.Names ∷ k) ∙ c.in_ok-param.ensures.gives (Part.Names ∷ k);
+  shrinks = (let a = c.in_ok-sign.ensures.shrinks in let b = c.in_ok-param.ensures.shrinks in omega arith);
+}
+
+pub returns-clause-reads : goal.returns-clause-reads
+returns-clause-reads c = subst (λ w. Reads (Form.Params w) c.args.c.now.rest c.more.c.rest) (append-nil c.more.params) (c.more.invariant.reads [] _ G.no_names)

@@ -1,0 +1,6 @@
+use Rattle.task_parse.proofs.OneAnswer as O
+use Rattle.task_parse.proofs.laws.each_list_has_one_answer.Goals as goal
+
+pub returns : goal.returns
+returns c =
+    record { faults = O.faults_agree; deeps = O.deeps_agree; apart = O.fault_or_deep; program = (λ list p n d f. O.no_program list n p f d); free = O.no_deep }

@@ -1,0 +1,18 @@
+-- What may be answered about a list of tokens. Memory may be refused at any time.
+use Rattle.std.specs.Prelude.{◌≡◌, List, Result, Err}
+use Rattle.task_parse.specs.Faults.{FaultAt, DeepAt}
+use Rattle.task_parse.specs.Lexeme.{Lexeme}
+use Rattle.task_parse.specs.declared.fault.ParseFault.{ParseFault}
+use Rattle.task_parse.specs.declared.fault.ParseFault.TheVariants as fault
+use Rattle.task_syntax.specs.declared.program.Program.{Program}
+
+-- the fault is the first of the list, or memory was refused
+abbrev pub Explains : List Lexeme → ParseFault → Type 0
+Explains list (fault.Syntax n) = FaultAt list n
+Explains list (fault.TooDeep n) = DeepAt list n
+Explains list fault.OutOfMemory = Unit {0}
+
+-- the answer is this one, unless memory was refused
+abbrev pub IsAnswer : Result Program ParseFault → Result Program ParseFault → Type 0
+IsAnswer (Err fault.OutOfMemory) answer = Unit {0}
+IsAnswer result answer = answer ≡ result

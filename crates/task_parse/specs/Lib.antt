@@ -1,0 +1,10 @@
+pub mod Answer
+pub mod Bars
+pub mod Climbs
+pub mod Faults
+pub mod Grammar
+pub mod Lexeme
+pub mod Machine
+pub mod Operators
+pub mod Spots
+pub mod View

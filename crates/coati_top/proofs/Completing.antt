@@ -7,10 +7,15 @@ use Rattle.task_lex.specs.declared.fault.LexFault.{LexFault}
 use Rattle.task_lex.specs.declared.fault.LexFault.TheVariants.{BadByte, BadNumber}
 use Rattle.task_lex.specs.declared.token.Token.{Token}
 use Rattle.coati_io.specs.Ends.{ReadsWhole, ConsumesExactly}
+use Rattle.task_parse.specs.Bars.{AreFree, start}
+use Rattle.task_parse.specs.Faults.{DeepAt, FaultAt, Spells}
+use Rattle.task_parse.specs.Grammar.{Derives}
+use Rattle.task_parse.specs.Lexeme.{Lexeme}
 use Rattle.coati_board.specs.Board.{Whole}
+use Rattle.coati_board.specs.FirstForm.{IsFirstForm}
 use Rattle.coati_top.specs.declared.command.Command.{Command}
 use Rattle.coati_top.specs.declared.refusal.Refusal.{Refusal}
-use Rattle.coati_top.specs.declared.refusal.Refusal.TheVariants.{Lexical, Number, Later}
+use Rattle.coati_top.specs.declared.refusal.Refusal.TheVariants.{Lexical, Number, Syntax, Deep, Later}
 use Rattle.coati_top.specs.declared.status.Status.{Status}
 use Rattle.coati_top.specs.declared.status.Status.TheVariants.{Ok, Usage, ReadFault, WriteFault, TooLarge, Refused, BadTrace, Differs, OutOfMemory}
 use Rattle.coati_top.specs.Answer.{Answers, AsksFor, IsRefused}
@@ -20,9 +25,13 @@ use Rattle.coati_top.specs.Complete.{IsUndisturbed, IsServed, Succeeds}
 use Rattle.coati_top.specs.Divided.{source_part}
 use Rattle.task_syntax.specs.declared.program.Program.{Program}
 
--- a source has no tokens beside a fault
-abbrev pub AreApart : Type 0
-AreApart = (source : List ℕ) (tokens : List Token) (fault : LexFault) → Tokens source tokens → FaultsAt source fault → ⊥
+-- what is known of a source: it has at most one list of tokens, which is at most one program, and none beside a fault
+pub record HasOneAnswer : Type 0 where
+  pub tokens : (source : List ℕ) (tokens others : List Token) → Tokens source tokens → Tokens source others → tokens ≡ others
+  pub lexical : (source : List ℕ) (tokens : List Token) (fault : LexFault) → Tokens source tokens → FaultsAt source fault → ⊥
+  pub program : (list : List Lexeme) (program other : Program) → Derives list program → Derives list other → program ≡ other
+  pub syntax : (list : List Lexeme) (program : Program) (token : ℕ) → Derives list program → FaultAt list token → ⊥
+  pub deep : (list : List Lexeme) (token : ℕ) → AreFree start list → DeepAt list token → ⊥
 
 -- an input that told of its bytes and was read to its end gave these
 whole_is_told : (old new : Option (List ℕ)) (max : ℕ) (bytes told : List ℕ) → old ≡ Some told → ReadsWhole old new max bytes → bytes ≡ told
@@ -44,30 +53,39 @@ gives_no_more (Some left) (Some rest) told is fits given =
     ap length (left_is ∙ given.consumed) ∙ length-append given.bytes rest in
     absurd (omega (arith, fits, parts, given.count))
 
-module _ (apart : AreApart) (bytes : List ℕ) (program : Program) (limit : ℕ) (asked : AsksFor bytes program limit) where
+module _ (one : HasOneAnswer) (bytes : List ℕ) (program : Program) (limit : ℕ) (asked : AsksFor bytes program limit) where
+  -- the tokens that a refusal tells of are those that ask for the run
+  spelled_by : (tokens : List Token) → Tokens (source_part bytes) tokens → Spells (source_part bytes) tokens program
+  spelled_by tokens read =
+      subst (λ (ts : List Token). Spells (source_part bytes) ts program) (one.tokens (source_part bytes) asked.tokens tokens asked.read read) asked.spelled
+
   -- an input that asks for a run is not refused
   no_refusal : (refusal : Refusal) → IsRefused bytes refusal → ⊥
-  no_refusal (Lexical at) cause = apart (source_part bytes) asked.tokens (BadByte at) asked.read cause
-  no_refusal (Number at) cause = apart (source_part bytes) asked.tokens (BadNumber at) asked.read cause
-  no_refusal Later cause = cause.no_run program limit asked
+  no_refusal (Lexical at) cause = one.lexical (source_part bytes) asked.tokens (BadByte at) asked.read cause
+  no_refusal (Number at) cause = one.lexical (source_part bytes) asked.tokens (BadNumber at) asked.read cause
+  no_refusal (Syntax token) cause = one.syntax _ program token (spelled_by cause.tokens cause.read).derives cause.fault
+  no_refusal (Deep token) cause = one.deep _ token (spelled_by cause.tokens cause.read).free cause.fault
+  no_refusal Later cause =
+      let same : program ≡ cause.program = one.program _ program cause.program (spelled_by cause.tokens cause.read).derives cause.spelled.derives in
+      cause.no_run limit (subst IsFirstForm same asked.form) asked.limited
 
   no_answer : (command : Command) (text : List ℕ) (board : Option Whole) → Answers command bytes Refused text board → ⊥
   no_answer command text board (refused refusal cause is text_is none) = no_refusal refusal cause
   no_answer command text board (ran run made is text_is some) = absurd cc
 
 -- the status of an undisturbed call on an input that is served, by cases
-pub completes_explained : AreApart → (command : Command) (status : Status) (input : InputEdge) (output : OutputEdge) (board : Option Whole)
+pub completes_explained : HasOneAnswer → (command : Command) (status : Status) (input : InputEdge) (output : OutputEdge) (board : Option Whole)
     → Explains command status input output board → (bytes : List ℕ) → IsUndisturbed input output bytes → IsServed command bytes → Succeeds status
-completes_explained apart command Ok input output board why bytes calm served = inl refl
-completes_explained apart command Usage input output board why bytes calm served = absurd why
-completes_explained apart command ReadFault input output board why bytes calm served = absurd (calm.read why.0)
-completes_explained apart command WriteFault input output board why bytes calm served = absurd (calm.written why.written.failed)
-completes_explained apart command TooLarge input output board why bytes calm served =
+completes_explained one command Ok input output board why bytes calm served = inl refl
+completes_explained one command Usage input output board why bytes calm served = absurd why
+completes_explained one command ReadFault input output board why bytes calm served = absurd (calm.read why.0)
+completes_explained one command WriteFault input output board why bytes calm served = absurd (calm.written why.written.failed)
+completes_explained one command TooLarge input output board why bytes calm served =
     absurd (gives_no_more input.old input.new bytes calm.told calm.fits why.0)
-completes_explained apart command Refused input output board why bytes calm served =
+completes_explained one command Refused input output board why bytes calm served =
     let same : why.bytes ≡ bytes = whole_is_told input.old input.new input_limit why.bytes bytes calm.told why.read in
-    absurd (no_answer apart bytes served.program served.limit served.asked command why.text board
+    absurd (no_answer one bytes served.program served.limit served.asked command why.text board
     (subst (λ (bs : List ℕ). Answers command bs Refused why.text board) same why.answers))
-completes_explained apart command BadTrace input output board why bytes calm served = absurd why
-completes_explained apart command Differs input output board why bytes calm served = absurd why
-completes_explained apart command OutOfMemory input output board why bytes calm served = inr refl
+completes_explained one command BadTrace input output board why bytes calm served = absurd why
+completes_explained one command Differs input output board why bytes calm served = absurd why
+completes_explained one command OutOfMemory input output board why bytes calm served = inr refl

@@ -5,8 +5,6 @@ pub mod Complete
 pub mod Divided
 pub mod Ended
 pub mod FormParts
-pub mod FormText
-pub mod Lexeme
 pub mod LimitLine
 pub mod Printed
 pub mod Refusal

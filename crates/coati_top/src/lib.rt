@@ -6,8 +6,6 @@ mod command;
 mod divided;
 mod drive;
 mod first_form;
-mod form;
-mod form_reader;
 mod laws;
 mod limit_line;
 mod printed;
@@ -20,6 +18,3 @@ pub use command::{Command, command_of};
 pub use laws::an_input_has_one_division;
 pub use status::{Done, Status};
 pub use still::coati_still;
-
-#[cfg(test)]
-mod tests;

@@ -12,6 +12,10 @@ pub(crate) enum Refusal {
     Lexical(u32),
     /// At this place of the source stands a number that is none.
     Number(u32),
+    /// With this token of the source no program goes on, or its tokens end before it.
+    Syntax(u32),
+    /// This token of the source stands too deep.
+    Deep(u32),
     /// The input is of a form that is not served yet.
     Later,
 }
@@ -24,6 +28,8 @@ impl Refusal {
         match self {
             Refusal::Lexical(at) => refused_at(alloc, b"refused lexical ", at),
             Refusal::Number(at) => refused_at(alloc, b"refused number ", at),
+            Refusal::Syntax(token) => refused_at(alloc, b"refused syntax ", token),
+            Refusal::Deep(token) => refused_at(alloc, b"refused deep ", token),
             Refusal::Later => Vec::from_slice(alloc, b"refused later\n").map_err(|_| OutOfMemory),
         }
     }

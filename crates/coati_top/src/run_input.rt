@@ -1,15 +1,16 @@
-ghost use Rattle.std.specs.Prelude.{◌≡◌, ◌≤◌, List, length, IfOk, IfErr};
+ghost use Rattle.std.specs.Prelude.{◌≡◌, ◌≤◌, ◌<◌, ◌^◌, ℕ, List, length, IfOk, IfErr};
 ghost use Rattle.coati_top.specs.Answer.{AsksFor};
-ghost use Rattle.coati_top.specs.RunFault.{Explains, ExplainsSource};
+ghost use Rattle.coati_top.specs.RunFault.{Explains, ExplainsSource, ExplainsTokens};
 ghost use Rattle.task_lex.specs.Reading.{Tokens};
+ghost use Rattle.task_parse.specs.Faults.{Spells};
 
 use crate::divided::{second_part, source_part};
-use crate::form::read_form;
-use crate::form_reader::FormFault;
+use crate::first_form::is_first_form;
 use crate::limit_line::limit_of;
 use crate::refusal::Refusal;
 use std::alloc::Global;
 use task_lex::{LexFault, Token, lex};
+use task_parse::{ParseFault, parse};
 use task_syntax::Program;
 
 /// What an input asks for.
@@ -34,14 +35,10 @@ pub(crate) fn read_run(alloc: Global, input: &[u8]) -> Result<RunInput, RunFault
 {
     let source = source_part(input);
     let tokens = tokens_of(alloc, source)?;
-    let program = match read_form(alloc, source, &tokens) {
-        Ok(program) => program,
-        Err(FormFault::Later) => return Err(RunFault::Refused(Refusal::Later)),
-        Err(FormFault::OutOfMemory) => return Err(RunFault::OutOfMemory),
-    };
+    let program = program_of(alloc, source, &tokens)?;
     match limit_of(second_part(input)) {
-        Some(limit) => Ok(RunInput { program, limit }),
-        None => Err(RunFault::Refused(Refusal::Later)),
+        Some(limit) if is_first_form(&program) => Ok(RunInput { program, limit }),
+        _ => Err(RunFault::Refused(Refusal::Later)),
     }
 }
 
@@ -49,7 +46,7 @@ pub(crate) fn read_run(alloc: Global, input: &[u8]) -> Result<RunInput, RunFault
 fn tokens_of(alloc: Global, source: &[u8]) -> Result<Vec<Token>, RunFault>
     requires { length source.now ≤ 262144 }
     ensures tokens { IfOk result (λ tokens. Tokens source.now tokens.items) }
-    ensures only { (tokens : List Token) → Tokens source.now tokens → IfOk result (λ read. tokens ≡ read.items) }
+    ensures few { IfOk result (λ tokens. length tokens.items ≤ length source.now) }
     ensures fault { IfErr result (ExplainsSource source.now) }
 {
     match lex(alloc, source) {
@@ -57,5 +54,20 @@ fn tokens_of(alloc: Global, source: &[u8]) -> Result<Vec<Token>, RunFault>
         Err(LexFault::BadByte(at)) => Err(RunFault::Refused(Refusal::Lexical(at))),
         Err(LexFault::BadNumber(at)) => Err(RunFault::Refused(Refusal::Number(at))),
         Err(LexFault::OutOfMemory) => Err(RunFault::OutOfMemory),
+    }
+}
+
+/// The program that the tokens of a source spell.
+fn program_of(alloc: Global, source: &[u8], tokens: &[Token]) -> Result<Program, RunFault>
+    requires read { Tokens source.now tokens.now }
+    requires few { length tokens.now < 2 ^ 31 }
+    ensures spelled { IfOk result (λ program. Spells source.now tokens.now program) }
+    ensures fault { IfErr result (ExplainsTokens source.now tokens.now) }
+{
+    match parse(alloc, source, tokens) {
+        Ok(program) => Ok(program),
+        Err(ParseFault::Syntax(token)) => Err(RunFault::Refused(Refusal::Syntax(token))),
+        Err(ParseFault::TooDeep(token)) => Err(RunFault::Refused(Refusal::Deep(token))),
+        Err(ParseFault::OutOfMemory) => Err(RunFault::OutOfMemory),
     }
 }

@@ -9,6 +9,7 @@ use coati_io::{ReadEnd, Sink, Source, read_all, write_all};
 use coati_word::limits::INPUT_BYTES;
 use std::alloc::Global;
 use task_lex::each_source_has_one_answer;
+use task_parse::{a_list_is_one_program, each_list_has_one_answer};
 
 /// Does what the words say, from the input to the output. It returns, whatever these do.
 pub fn coati_still<S: Source, K: Sink>(
@@ -24,6 +25,8 @@ pub fn coati_still<S: Source, K: Sink>(
     ensures steady { S.sound input.old → IsSteadyInput result.status (input_edge S.left S.faults input.old input.new) }
 {
     each_source_has_one_answer();
+    a_list_is_one_program();
+    each_list_has_one_answer();
     match command_of(words) {
         None => Done {
             status: deliver(output, Status::Usage, USAGE),

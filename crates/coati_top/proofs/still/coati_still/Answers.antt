@@ -1,7 +1,7 @@
 use Rattle.std.proofs.Common.{◌≡◌, map, string_bytes, Some, sym, ◌∙◌}
 use Rattle.coati_top.specs.Call.{input_edge, output_edge}
 use Rattle.coati_top.specs.Words.{command_of}
-use Rattle.coati_top.proofs.Completing.{completes_explained}
+use Rattle.coati_top.proofs.Completing.{HasOneAnswer, completes_explained}
 use Rattle.coati_top.proofs.still.coati_still.Goals as goal
 
 pub returns-in-Some-clause-complete : goal.returns-in-Some-clause-complete
@@ -9,4 +9,11 @@ returns-in-Some-clause-complete g c =
     let input = input_edge g.S.Source.left g.S.Source.faults c.args.input.now c.run.new.input in
     let output = output_edge g.K.Sink.taken g.K.Sink.faults g.K.Sink.spare c.args.output.now c.run.new.output in
     let is : command_of (map string_bytes c.args.words.now) ≡ Some c.in-Some.command = sym c.command_of.ensures ∙ c.in-Some.is in
-    rw is (completes_explained c.each_source_has_one_answer.ensures.apart c.in-Some.command c.run.result.status input output c.run.result.board c.run.ensures.explained)
+    let one : HasOneAnswer = record {
+      tokens = c.each_source_has_one_answer.ensures.tokens;
+      lexical = c.each_source_has_one_answer.ensures.apart;
+      program = c.a_list_is_one_program.ensures;
+      syntax = c.each_list_has_one_answer.ensures.program;
+      deep = c.each_list_has_one_answer.ensures.free;
+    } in
+    rw is (completes_explained one c.in-Some.command c.run.result.status input output c.run.result.board c.run.ensures.explained)

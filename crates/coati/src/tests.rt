@@ -1,5 +1,5 @@
-use crate::{Status, coati_still};
 use coati_io::{MemSink, MemSource};
+use coati_top::{Status, coati_still};
 use std::alloc::Global;
 use std::test::Fail;
 
@@ -91,9 +91,11 @@ fn other_words_are_answered_with_the_usage(rt: HostRuntime) -> Result<(), Fail> 
 #[test]
 fn other_inputs_are_refused(rt: HostRuntime) -> Result<(), Fail> {
     let table = [
-        ("", "refused later\n"),
+        ("", "refused syntax 0\n"),
+        ("nv n;", "refused syntax 3\n"),
         ("nv $n; task m { halt; }", "refused lexical 3\n"),
         ("nv n; task m { n = 65536; halt; }", "refused number 19\n"),
+        ("nv n; task m { halt; } else", "refused syntax 9\n"),
         ("nv n; task m { halt; }", "refused later\n"),
         (
             "nv n; task m { halt; }\n%%\nlimit 500001",
@@ -117,7 +119,7 @@ fn other_inputs_are_refused(rt: HostRuntime) -> Result<(), Fail> {
             "refused later\n",
         ),
         ("nv a[2]; task m { halt; }\n%%\nlimit 9", "refused later\n"),
-        ("task m { halt; }\n%%\nlimit 9", "refused later\n"),
+        ("task m { halt; }\n%%\nlimit 9", "refused syntax 0\n"),
     ];
     for (input, text) in table {
         let answer = call(

@@ -61,7 +61,7 @@ fn counting_to_three_makes_three_commits(rt: HostRuntime) -> Result<(), Fail> {
     for (limit, third, end, n) in table {
         let input = format!(in alloc; "{COUNTING}limit {limit}\n")?;
         let text = format!(in alloc;
-            "coati split\n{FIRST}{SECOND}{third}{end}\nvar n {n}\nheld 0\n"
+            "coati split\nbound 451\n{FIRST}{SECOND}{third}{end}\nvar n {n}\nheld 0\n"
         )?;
         let answer = call(alloc, &["run", "split"], input.as_bytes(), AMPLE, AMPLE)?;
         assert_eq!(rt; answer.0, Status::Ok, "limit {limit}");
@@ -72,9 +72,10 @@ fn counting_to_three_makes_three_commits(rt: HostRuntime) -> Result<(), Fail> {
 
 #[test]
 fn other_words_are_answered_with_the_usage(rt: HostRuntime) -> Result<(), Fail> {
-    let table: [&[&str]; 5] = [
+    let table: [&[&str]; 6] = [
         &[],
         &["run"],
+        &["check", "x"],
         &["run", "buffi"],
         &["run", "split", "now"],
         &["walk", "split"],
@@ -95,23 +96,13 @@ fn other_inputs_are_refused(rt: HostRuntime) -> Result<(), Fail> {
         ("nv n;", "refused syntax 3\n"),
         ("nv $n; task m { halt; }", "refused lexical 3\n"),
         ("nv n; task m { n = 65536; halt; }", "refused number 19\n"),
-        ("nv n; task m { halt; } else", "refused syntax 9\n"),
+        (
+            "nv n; nv n; task m { halt; }\n%%\nlimit 9",
+            "refused rule 1 TwiceNamed at 9\n",
+        ),
         ("nv n; task m { halt; }", "refused later\n"),
         (
             "nv n; task m { halt; }\n%%\nlimit 500001",
-            "refused later\n",
-        ),
-        (
-            "nv n; task m { halt; }\n%%\nlimit 9\nlimit 9",
-            "refused later\n",
-        ),
-        (
-            "nv n; task m { m = 1; halt; }\n%%\nlimit 9",
-            "refused later\n",
-        ),
-        ("nv n; task m { next n; }\n%%\nlimit 9", "refused later\n"),
-        (
-            "nv n; nv n; task m { halt; }\n%%\nlimit 9",
             "refused later\n",
         ),
         (
@@ -119,7 +110,6 @@ fn other_inputs_are_refused(rt: HostRuntime) -> Result<(), Fail> {
             "refused later\n",
         ),
         ("nv a[2]; task m { halt; }\n%%\nlimit 9", "refused later\n"),
-        ("task m { halt; }\n%%\nlimit 9", "refused syntax 0\n"),
     ];
     for (input, text) in table {
         let answer = call(
@@ -180,6 +170,71 @@ fn the_greatest_input_is_read(rt: HostRuntime) -> Result<(), Fail> {
             "input too large\n"
         };
         assert!(rt; answer.1.starts_with(begins.as_bytes()), "{len} bytes");
+    }
+    Ok(())
+}
+
+#[test]
+fn sources_are_checked(rt: HostRuntime) -> Result<(), Fail> {
+    let table = [
+        ("", "refused syntax 0\n"),
+        (
+            "nv n; task m { n = k; halt; }",
+            "refused rule 2 Unknown at 19\n",
+        ),
+        (
+            "nv a[256]; nv b; task m { halt; }",
+            "refused rule 6 TooManyWords at 14\n",
+        ),
+        (
+            "nv n; task m { halt; n = 1; }",
+            "refused rule 8 NoEnding at 11\n",
+        ),
+        (
+            "nv n; task m { if n { halt; } halt; }",
+            "refused rule 9 EarlyEnding at 22\n",
+        ),
+        (
+            "nv n; task m { next q; } transaction t { task p { next q; } task q { halt; } }",
+            "refused rule 10 IntoTx at 20\n",
+        ),
+        (
+            "nv n; task m { n = 1; n = 1; repeat i < 5554 { } halt; }",
+            "refused rule 16 TooLong 50001 at 11\n",
+        ),
+    ];
+    for (source, text) in table {
+        let answer = call(rt.alloc(), &["check"], source.as_bytes(), AMPLE, AMPLE)?;
+        assert_eq!(rt; answer.0, Status::Refused, "{source}");
+        assert_eq!(rt; answer.1.as_slice(), text.as_bytes(), "{source}");
+    }
+    Ok(())
+}
+
+const DEVICE: &str = "nv a = 1; nv b = 0; buffer 1; \
+    event e(v) { top { give v + 1; } bottom(x) { b = a + x; } } \
+    transaction t { task p { a = a + 1; next q; } task q { a = a * 10; halt; } }";
+
+const DEVICE_TEXT: &str = "accepted\nwords 2\nbuffer 1\ntask p cost 7\ntask q cost 7\n\
+    event e cost 11\nbounds 12 36 192 48\n";
+
+#[test]
+fn accepted_sources_are_measured(rt: HostRuntime) -> Result<(), Fail> {
+    let table = [
+        (
+            "nv a[256]; task m { halt; }",
+            "accepted\nwords 256\nbuffer 8\ntask m cost 1\nbounds 2 2068 22770 2070\n",
+        ),
+        (
+            "nv n; task m { n = 1; n = 1; n = 1; n = 1; repeat i < 5553 { } halt; }",
+            "accepted\nwords 1\nbuffer 8\ntask m cost 50000\nbounds 50001 28 550319 50029\n",
+        ),
+        (DEVICE, DEVICE_TEXT),
+    ];
+    for (source, text) in table {
+        let answer = call(rt.alloc(), &["check"], source.as_bytes(), AMPLE, AMPLE)?;
+        assert_eq!(rt; answer.0, Status::Ok, "{source}");
+        assert_eq!(rt; answer.1.as_slice(), text.as_bytes(), "{source}");
     }
     Ok(())
 }

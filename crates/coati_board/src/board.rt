@@ -9,6 +9,7 @@ ghost use Rattle.coati_board.specs.Act.{IsStep};
 ghost use Rattle.coati_board.specs.SerialRun.{SerialRun, stand_of};
 ghost use Rattle.coati_board.specs.Sound.{StandsFor};
 ghost use Rattle.coati_board.specs.Board.{opened, executor_steps};
+ghost use Rattle.task_check.specs.Accepted.{IsAccepted};
 
 use crate::device::{Device, Phase};
 use crate::history::{End, History, Mark, MarkKind};
@@ -21,12 +22,13 @@ use coati_word::OutOfMemory;
 use coati_word::limits::HALT;
 use std::alloc::Global;
 use std::marker::Model;
+use task_check::Checked;
 use task_syntax::Program;
 
 /// A program on a device, and the history of its run. All room for the limit of steps is taken at the opening.
 #[derive(Drop)]
 pub struct Board {
-    program: Program,
+    checked: Checked,
     limit: u32,
     device: Device,
 }
@@ -42,20 +44,21 @@ impl Model for Board {
 
     ghost use Rattle.coati_board.specs.Board.{IsBoard};
 
-    ghost view = { λ b. record { program = b.program; limit = b.limit; device = b.device } };
+    ghost view = { λ b. record { program = b.checked; limit = b.limit; device = b.device } };
 
-    ghost invariant = { λ b. IsBoard b.program b.limit b.device };
+    ghost invariant = { λ b. IsBoard b.checked b.limit b.device };
 }
 
 impl Board {
-    /// A board on blank memory, which makes at most `limit` steps. A refusal drops the program.
-    pub fn open(alloc: Global, program: Program, limit: u32) -> Result<Board, OutOfMemory>
-        requires form { IsFirstForm program }
+    /// A board on blank memory, which makes at most `limit` steps. The program is of the form that is served. A refusal
+    /// drops it.
+    pub fn open(alloc: Global, checked: Checked, limit: u32) -> Result<Board, OutOfMemory>
+        requires form { IsFirstForm checked }
         requires limit { limit ≤ 500000 }
-        ensures { IfOk result (λ board. board ≡ record { program = program; limit = limit; device = opened program limit }) }
+        ensures { IfOk result (λ board. board ≡ record { program = checked; limit = limit; device = opened checked limit }) }
     {
         let steps = limit as usize;
-        let variables = opening(alloc, &program).map_err(|_| OutOfMemory)?;
+        let variables = opening(alloc, checked.program()).map_err(|_| OutOfMemory)?;
         let memory = NonvolatileMemory::blank(alloc, variables).map_err(|_| OutOfMemory)?;
         let history = History::with_room(alloc, steps + 1, 2 * steps).map_err(|_| OutOfMemory)?;
         let attempt = Readings::with_room(alloc, 2 * steps).map_err(|_| OutOfMemory)?;
@@ -67,7 +70,7 @@ impl Board {
             clock: 0,
         };
         Ok(Board {
-            program,
+            checked,
             limit,
             device,
         })
@@ -85,7 +88,7 @@ impl Board {
         ensures grows { IsPrefix self.old.device.history.marks self.new.device.history.marks }
         ensures kept { (committed : Record) → HasRecord self.old.device.history committed → readings_in self.new.device.history.readings committed ≡ readings_in self.old.device.history.readings committed }
     {
-        advance(&self.program, &mut self.device);
+        advance(self.checked.program(), &mut self.device);
     }
 
     /// Ends the run with an End mark. No memory is taken.
@@ -148,9 +151,17 @@ impl Board {
 
     /// The program.
     pub fn program(&self) -> &Program
+        ensures program { result.now ≡ self.now.program }
+        ensures accepted { IsAccepted self.now.program }
+    {
+        self.checked.program()
+    }
+
+    /// The program, as one that was checked.
+    pub fn checked(&self) -> &Checked
         ensures { result.now ≡ self.now.program }
     {
-        &self.program
+        &self.checked
     }
 
     /// How many variable words there are.
@@ -168,7 +179,7 @@ impl Board {
         ensures store { result ≡ (stand_of self.now.program self.now.device.history).store word }
     {
         if self.device.memory.mark() == COMMITTING {
-            load(&self.program, &self.device.memory, word)
+            load(self.checked.program(), &self.device.memory, word)
         } else {
             self.device.memory.variable(word)
         }

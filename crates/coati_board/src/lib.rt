@@ -14,6 +14,3 @@ mod task_log;
 pub use board::Board;
 pub use device::{Device, Phase};
 pub use history::{End, History, Mark, MarkKind, Record, Unit};
-
-#[cfg(test)]
-mod tests;

@@ -14,15 +14,23 @@ use Rattle.task_parse.specs.Lexeme.{Lexeme}
 use Rattle.coati_board.specs.Board.{Whole}
 use Rattle.coati_board.specs.FirstForm.{IsFirstForm}
 use Rattle.coati_top.specs.declared.command.Command.{Command}
+use Rattle.coati_top.specs.declared.command.Command.TheVariants.{Check, Run}
+use Rattle.coati_top.specs.declared.source_fault.SourceFault.{SourceFault}
+use Rattle.coati_top.specs.declared.source_fault.SourceFault.TheVariants as source_fault
+use Rattle.task_check.specs.Accepted.{IsAccepted, IsRefusal}
+use Rattle.task_check.specs.declared.fault.CheckFault.TheVariants as check_fault
+use Rattle.task_check.specs.declared.rule.Rule.{Rule}
 use Rattle.coati_top.specs.declared.refusal.Refusal.{Refusal}
-use Rattle.coati_top.specs.declared.refusal.Refusal.TheVariants.{Lexical, Number, Syntax, Deep, Later}
+use Rattle.coati_top.specs.declared.refusal.Refusal.TheVariants.{Source, Later}
 use Rattle.coati_top.specs.declared.status.Status.{Status}
 use Rattle.coati_top.specs.declared.status.Status.TheVariants.{Ok, Usage, ReadFault, WriteFault, TooLarge, Refused, BadTrace, Differs, OutOfMemory}
-use Rattle.coati_top.specs.Answer.{Answers, AsksFor, IsRefused}
-use Rattle.coati_top.specs.Answer.Answers.{refused, ran}
+use Rattle.coati_top.specs.Answer.{Answers, AsksForNoRun, IsRefused}
+use Rattle.coati_top.specs.Answer.Answers.{refused, measured, ran}
 use Rattle.coati_top.specs.Call.{InputEdge, OutputEdge, Explains, input_limit}
 use Rattle.coati_top.specs.Complete.{IsUndisturbed, IsServed, Succeeds}
-use Rattle.coati_top.specs.Divided.{source_part}
+use Rattle.coati_top.specs.Divided.{second_part, source_part}
+use Rattle.coati_top.specs.LimitLine.{IsLimitLine}
+use Rattle.coati_top.specs.Source.{HasProgram, IsSourceFault}
 use Rattle.task_syntax.specs.declared.program.Program.{Program}
 
 -- what is known of a source: it has at most one list of tokens, which is at most one program, and none beside a fault
@@ -32,6 +40,7 @@ pub record HasOneAnswer : Type 0 where
   pub program : (list : List Lexeme) (program other : Program) → Derives list program → Derives list other → program ≡ other
   pub syntax : (list : List Lexeme) (program : Program) (token : ℕ) → Derives list program → FaultAt list token → ⊥
   pub deep : (list : List Lexeme) (token : ℕ) → AreFree start list → DeepAt list token → ⊥
+  pub rule : (program : Program) (rule : Rule) (at : ℕ) → IsRefusal program (check_fault.Rule rule at) → IsAccepted program → ⊥
 
 -- an input that told of its bytes and was read to its end gave these
 whole_is_told : (old new : Option (List ℕ)) (max : ℕ) (bytes told : List ℕ) → old ≡ Some told → ReadsWhole old new max bytes → bytes ≡ told
@@ -53,25 +62,42 @@ gives_no_more (Some left) (Some rest) told is fits given =
     ap length (left_is ∙ given.consumed) ∙ length-append given.bytes rest in
     absurd (omega (arith, fits, parts, given.count))
 
-module _ (one : HasOneAnswer) (bytes : List ℕ) (program : Program) (limit : ℕ) (asked : AsksFor bytes program limit) where
-  -- the tokens that a refusal tells of are those that ask for the run
+module _ (one : HasOneAnswer) (bytes : List ℕ) (program : Program) (has : HasProgram bytes program) where
+  -- the source's tokens are these alone
   spelled_by : (tokens : List Token) → Tokens (source_part bytes) tokens → Spells (source_part bytes) tokens program
   spelled_by tokens read =
-      subst (λ (ts : List Token). Spells (source_part bytes) ts program) (one.tokens (source_part bytes) asked.tokens tokens asked.read read) asked.spelled
+      subst (λ (ts : List Token). Spells (source_part bytes) ts program) (one.tokens (source_part bytes) has.tokens tokens has.read read) has.spelled
 
-  -- an input that asks for a run is not refused
-  no_refusal : (refusal : Refusal) → IsRefused bytes refusal → ⊥
-  no_refusal (Lexical at) cause = one.lexical (source_part bytes) asked.tokens (BadByte at) asked.read cause
-  no_refusal (Number at) cause = one.lexical (source_part bytes) asked.tokens (BadNumber at) asked.read cause
-  no_refusal (Syntax token) cause = one.syntax _ program token (spelled_by cause.tokens cause.read).derives cause.fault
-  no_refusal (Deep token) cause = one.deep _ token (spelled_by cause.tokens cause.read).free cause.fault
-  no_refusal Later cause =
-      let same : program ≡ cause.program = one.program _ program cause.program (spelled_by cause.tokens cause.read).derives cause.spelled.derives in
-      cause.no_run limit (subst IsFirstForm same asked.form) asked.limited
+  -- and its program this one
+  same_program : (other : Program) → HasProgram bytes other → program ≡ other
+  same_program other source = one.program _ program other (spelled_by source.tokens source.read).derives source.spelled.derives
 
-  no_answer : (command : Command) (text : List ℕ) (board : Option Whole) → Answers command bytes Refused text board → ⊥
-  no_answer command text board (refused refusal cause is text_is none) = no_refusal refusal cause
-  no_answer command text board (ran run made is text_is some) = absurd cc
+  -- an accepted program has no fault
+  no_fault : IsAccepted program → (fault : SourceFault) → IsSourceFault bytes fault → ⊥
+  no_fault accepted (source_fault.Lexical at) cause = one.lexical (source_part bytes) has.tokens (BadByte at) has.read cause
+  no_fault accepted (source_fault.Number at) cause = one.lexical (source_part bytes) has.tokens (BadNumber at) has.read cause
+  no_fault accepted (source_fault.Syntax token) cause = one.syntax _ program token (spelled_by cause.tokens cause.read).derives cause.fault
+  no_fault accepted (source_fault.Deep token) cause = one.deep _ token (spelled_by cause.tokens cause.read).free cause.fault
+  no_fault accepted (source_fault.Rule rule at) cause =
+      one.rule cause.program rule at cause.refused (subst IsAccepted (same_program cause.program cause.source) accepted)
+
+  -- an input that asks for a run is not put off
+  no_later : (limit : ℕ) → IsFirstForm program → IsLimitLine (second_part bytes) limit → AsksForNoRun bytes → ⊥
+  no_later limit form limited cause = cause.no_run limit (subst IsFirstForm (same_program cause.program cause.source.source) form) limited
+
+-- what is served is not refused
+no_refusal : HasOneAnswer → (command : Command) (bytes : List ℕ) → IsServed command bytes → (refusal : Refusal) → IsRefused command bytes refusal → ⊥
+no_refusal one Check bytes served (Source fault) cause = no_fault one bytes served.program served.source.source served.source.accepted fault cause
+no_refusal one Check bytes served Later cause = cause
+no_refusal one (Run mode) bytes served (Source fault) cause =
+    no_fault one bytes served.program served.asked.source.source served.asked.source.accepted fault cause
+no_refusal one (Run mode) bytes served Later cause =
+    no_later one bytes served.program served.asked.source.source served.limit served.asked.form served.asked.limited cause
+
+no_answer : HasOneAnswer → (command : Command) (bytes : List ℕ) → IsServed command bytes → (text : List ℕ) (board : Option Whole) → Answers command bytes Refused text board → ⊥
+no_answer one command bytes served text board (refused refusal cause is text_is none) = no_refusal one command bytes served refusal cause
+no_answer one command bytes served text board (measured program by source is text_is none) = absurd cc
+no_answer one command bytes served text board (ran mode run by made is text_is some) = absurd cc
 
 -- the status of an undisturbed call on an input that is served, by cases
 pub completes_explained : HasOneAnswer → (command : Command) (status : Status) (input : InputEdge) (output : OutputEdge) (board : Option Whole)
@@ -84,7 +110,7 @@ completes_explained one command TooLarge input output board why bytes calm serve
     absurd (gives_no_more input.old input.new bytes calm.told calm.fits why.0)
 completes_explained one command Refused input output board why bytes calm served =
     let same : why.bytes ≡ bytes = whole_is_told input.old input.new input_limit why.bytes bytes calm.told why.read in
-    absurd (no_answer one bytes served.program served.limit served.asked command why.text board
+    absurd (no_answer one command bytes served why.text board
     (subst (λ (bs : List ℕ). Answers command bs Refused why.text board) same why.answers))
 completes_explained one command BadTrace input output board why bytes calm served = absurd why
 completes_explained one command Differs input output board why bytes calm served = absurd why

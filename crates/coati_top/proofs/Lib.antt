@@ -1,6 +1,11 @@
+pub mod Accepting
 pub mod Completing
 pub mod Dividers
 pub mod Explaining
 pub mod Forms
+pub mod Numbered
+pub mod OnlyNames
 pub mod Shapes
+pub mod SpelledNames
 pub mod TokenCounts
+pub mod WellFormed

@@ -4,6 +4,8 @@ use Rattle.task_syntax.specs.declared.program.Program.{Program}
 use Rattle.coati_top.specs.Answer.{AsksFor}
 use Rattle.coati_top.specs.Call.{InputEdge, OutputEdge, ReadingFailed, WritingFailed, input_limit}
 use Rattle.coati_top.specs.declared.command.Command.{Command}
+use Rattle.coati_top.specs.declared.command.Command.TheVariants.{Check, Run}
+use Rattle.coati_top.specs.Source.{HasAccepted}
 use Rattle.coati_top.specs.declared.status.Status.{Status}
 use Rattle.coati_top.specs.declared.status.Status.TheVariants.{Ok, ReadFault, OutOfMemory}
 
@@ -14,11 +16,21 @@ pub record IsUndisturbed (input : InputEdge) (output : OutputEdge) (bytes : List
   pub read : ReadingFailed input → ⊥
   pub written : WritingFailed output → ⊥
 
--- the command serves an input of these bytes
-pub record IsServed (command : Command) (bytes : List ℕ) : Type 0 where
+-- the source is an accepted program
+pub record IsMeasurable (bytes : List ℕ) : Type 0 where
+  pub program : Program
+  pub source : HasAccepted bytes program
+
+-- the source is an accepted program of the first form, and the second part a limit
+pub record IsRunnable (bytes : List ℕ) : Type 0 where
   pub program : Program
   pub limit : ℕ
   pub asked : AsksFor bytes program limit
+
+-- the command serves an input of these bytes
+abbrev pub IsServed : Command → List ℕ → Type 0
+IsServed Check bytes = IsMeasurable bytes
+IsServed (Run mode) bytes = IsRunnable bytes
 
 -- the call succeeds, unless memory ran out
 abbrev pub Succeeds : Status → Type 0

@@ -1,12 +1,15 @@
 pub mod Answer
 pub mod Call
+pub mod CheckText
 pub mod Codes
 pub mod Complete
 pub mod Divided
 pub mod Ended
 pub mod FormParts
 pub mod LimitLine
+pub mod Lines
 pub mod Printed
 pub mod Refusal
-pub mod RunFault
+pub mod Source
+pub mod SourceFaults
 pub mod Words

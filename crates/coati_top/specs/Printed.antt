@@ -1,4 +1,4 @@
--- The printed text of a run: the mode, a line for each mark, the variables, and how many postings are held.
+-- The printed text of a run: the mode, the power period that suffices, a line for each mark, the variables, and how many postings are held.
 use Rattle.std.specs.Prelude.{ℕ, ◌+◌, List, [], ◌∷◌, ◌++◌, codes, decimal, flat_map, slice_get}
 use Rattle.std.specs.Option.{option_map_or}
 use Rattle.coati_word.specs.declared.reading.Reading.{Reading}
@@ -18,6 +18,8 @@ use Rattle.coati_board.specs.declared.history.End.TheVariants as ended
 use Rattle.coati_board.specs.Board.{Whole}
 use Rattle.coati_board.specs.History.{readings_in}
 use Rattle.coati_board.specs.SerialRun.{stand_of}
+use Rattle.task_cost.specs.Limits.{bounds_of}
+use Rattle.coati_top.specs.Lines.{number_line}
 
 -- the name of the scalar that is this variable word
 abbrev pub variable_name : Program → ℕ → List ℕ
@@ -68,7 +70,7 @@ variable_lines word (var ∷ more) store = variable_text var.name.text (store wo
 -- the whole text
 abbrev pub printed_text : Program → List Mark → List Reading → Store → List ℕ
 printed_text program marks readings store =
-    codes "coati split\n" ++ mark_lines program readings marks ++ variable_lines 0 program.vars store ++ codes "held 0\n"
+    codes "coati split\n" ++ number_line (codes "bound") (bounds_of program).b ++ mark_lines program readings marks ++ variable_lines 0 program.vars store ++ codes "held 0\n"
 
 -- the text of a board: its history, and the words to which the serial run of its history leads
 abbrev pub board_text : Whole → List ℕ

@@ -1,14 +1,21 @@
-ghost use Rattle.std.specs.Prelude.{◌≤◌, length, IfOk};
+ghost use Rattle.std.specs.Prelude.{◌≡◌, ◌≤◌, length, IfOk};
 ghost use Rattle.coati_top.specs.Answer.{Answers, AsksFor, IsRefused};
+ghost use Rattle.coati_top.specs.Source.{HasAccepted};
 
+use crate::check_text::check_text;
+use crate::divided::second_part;
 use crate::drive::run_to_end;
+use crate::first_form::is_first_form;
+use crate::limit_line::limit_of;
 use crate::printed::printed;
 use crate::refusal::Refusal;
-use crate::run_input::{RunFault, RunInput, read_run};
+use crate::source::read_source;
+use crate::source_fault::NoProgram;
 use crate::{Command, Status};
 use coati_board::Board;
-use coati_word::OutOfMemory;
+use coati_word::{Mode, OutOfMemory};
 use std::alloc::Global;
+use task_check::Checked;
 
 /// What a command answers to an input.
 #[derive(Drop)]
@@ -24,10 +31,26 @@ pub(crate) fn answer_to(alloc: Global, command: Command, input: &[u8]) -> Result
     requires { length input.now ≤ 262144 }
     ensures { IfOk result (λ reply. Answers command input.now reply.status reply.text.items reply.board) }
 {
-    match read_run(alloc, input) {
-        Ok(run) => ran(alloc, command, input, run),
-        Err(RunFault::Refused(refusal)) => refused(alloc, command, input, refusal),
-        Err(RunFault::OutOfMemory) => Err(OutOfMemory),
+    match read_source(alloc, input) {
+        Ok(checked) => answer_about(alloc, command, input, checked),
+        Err(NoProgram::Fault(fault)) => refused(alloc, command, input, Refusal::Source(fault)),
+        Err(NoProgram::OutOfMemory) => Err(OutOfMemory),
+    }
+}
+
+/// The answer to an input whose source is an accepted program.
+fn answer_about(
+    alloc: Global,
+    command: Command,
+    input: &[u8],
+    checked: Checked,
+) -> Result<Reply, OutOfMemory>
+    requires { HasAccepted input.now checked }
+    ensures { IfOk result (λ reply. Answers command input.now reply.status reply.text.items reply.board) }
+{
+    match command {
+        Command::Check => measured(alloc, input, &checked),
+        Command::Run(mode) => run(alloc, mode, input, checked),
     }
 }
 
@@ -38,7 +61,7 @@ fn refused(
     input: &[u8],
     refusal: Refusal,
 ) -> Result<Reply, OutOfMemory>
-    requires { IsRefused input.now refusal }
+    requires { IsRefused command input.now refusal }
     ensures { IfOk result (λ reply. Answers command input.now reply.status reply.text.items reply.board) }
 {
     let text = refusal.text(alloc)?;
@@ -49,12 +72,42 @@ fn refused(
     })
 }
 
-/// The answer to an input that asks for a run, which is made.
-fn ran(alloc: Global, command: Command, input: &[u8], run: RunInput) -> Result<Reply, OutOfMemory>
-    requires { AsksFor input.now run.program run.limit }
-    ensures { IfOk result (λ reply. Answers command input.now reply.status reply.text.items reply.board) }
+/// What `check` answers to an accepted program.
+fn measured(alloc: Global, input: &[u8], checked: &Checked) -> Result<Reply, OutOfMemory>
+    requires { HasAccepted input.now checked.now }
+    ensures { IfOk result (λ reply. Answers Command.Check input.now reply.status reply.text.items reply.board) }
 {
-    let mut board = Board::open(alloc, run.program, run.limit)?;
+    let text = check_text(alloc, checked)?;
+    Ok(Reply {
+        status: Status::Ok,
+        text,
+        board: None,
+    })
+}
+
+/// What `run` answers to an accepted program.
+fn run(alloc: Global, mode: Mode, input: &[u8], checked: Checked) -> Result<Reply, OutOfMemory>
+    requires { HasAccepted input.now checked }
+    ensures { IfOk result (λ reply. Answers (Command.Run mode) input.now reply.status reply.text.items reply.board) }
+{
+    match limit_of(second_part(input)) {
+        Some(limit) if is_first_form(checked.program()) => ran(alloc, mode, input, checked, limit),
+        _ => refused(alloc, Command::Run(mode), input, Refusal::Later),
+    }
+}
+
+/// The answer to an input that asks for a run, which is made.
+fn ran(
+    alloc: Global,
+    mode: Mode,
+    input: &[u8],
+    checked: Checked,
+    limit: u32,
+) -> Result<Reply, OutOfMemory>
+    requires { AsksFor input.now checked limit }
+    ensures { IfOk result (λ reply. Answers (Command.Run mode) input.now reply.status reply.text.items reply.board) }
+{
+    let mut board = Board::open(alloc, checked, limit)?;
     run_to_end(&mut board);
     let text = printed(alloc, &board)?;
     Ok(Reply {

@@ -6,6 +6,8 @@ use coati_word::Mode;
 /// What the words of a command line ask for.
 #[derive(Clone, Copy, Debug, PartialEq, Eq)]
 pub enum Command {
+    /// Tell what the source of the input costs, or why it is refused.
+    Check,
     /// Run the source of the input, with the events in this mode.
     Run(Mode),
 }
@@ -15,6 +17,7 @@ pub fn command_of(words: &[String]) -> Option<Command>
     ensures { result ≡ command_of (map string_bytes words.now) }
 {
     match words {
+        [command] if command.as_str() == "check" => Some(Command::Check),
         [command, mode] if command.as_str() == "run" && mode.as_str() == "split" => {
             Some(Command::Run(Mode::Split))
         }

@@ -2,19 +2,22 @@
 #![tactic(auto)]
 
 mod answer;
+mod check_text;
 mod command;
 mod divided;
 mod drive;
 mod first_form;
 mod laws;
 mod limit_line;
+mod output;
 mod printed;
 mod refusal;
-mod run_input;
+mod source;
+mod source_fault;
 mod status;
 mod still;
 
 pub use command::{Command, command_of};
-pub use laws::an_input_has_one_division;
+pub use laws::{an_input_has_one_division, spelled_programs_are_well_formed};
 pub use status::{Done, Status};
 pub use still::coati_still;

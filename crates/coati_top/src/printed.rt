@@ -6,18 +6,13 @@ ghost use Rattle.coati_board.specs.SerialRun.{SerialRun, stand_of};
 ghost use Rattle.coati_board.specs.Sound.{StandsFor};
 ghost use Rattle.coati_top.specs.Printed.{variable_name, task_name, reading_text, unit_text, end_text, mark_text, commit_text, mark_lines, variable_text, variable_lines, board_text};
 
+use crate::output::{put, put_number_line};
 use coati_board::{Board, End, History, MarkKind, Record, Unit};
 use coati_text::put_decimal;
 use coati_word::{OutOfMemory, Reading};
 use std::alloc::Global;
+use task_cost::bounds;
 use task_syntax::{Program, UnitDecl};
-
-/// Appends bytes.
-fn put(out: &mut Vec<u8>, bytes: &[u8]) -> Result<(), OutOfMemory>
-    ensures { OnOk result (out.new.items ≡ out.old.items ++ bytes.now) }
-{
-    out.extend_from_slice(bytes).map_err(|_| OutOfMemory)
-}
 
 /// Appends the name of a variable word.
 fn put_variable_name(out: &mut Vec<u8>, program: &Program, word: u16) -> Result<(), OutOfMemory>
@@ -165,6 +160,7 @@ pub(crate) fn printed(alloc: Global, board: &Board) -> Result<Vec<u8>, OutOfMemo
     ensures stands { OnOk result (StandsFor board.now.program board.now.device.memory board.now.device.history) }
 {
     let mut out = Vec::from_slice(alloc, b"coati split\n").map_err(|_| OutOfMemory)?;
+    put_number_line(&mut out, b"bound", bounds(board.checked()).b)?;
     put_marks(&mut out, board.program(), board.history())?;
     put_variables(&mut out, board)?;
     put(&mut out, b"held 0\n")?;

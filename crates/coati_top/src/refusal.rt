@@ -1,22 +1,19 @@
-ghost use Rattle.std.specs.Prelude.{◌≡◌, ◌++◌, codes, decimal, IfOk};
-ghost use Rattle.coati_top.specs.Refusal.{refusal_text};
+ghost use Rattle.std.specs.Prelude.{◌≡◌, ◌++◌, IfOk, OnOk};
+ghost use Rattle.coati_top.specs.Refusal.{fault_text, reason_text, refusal_text, rule_text};
+ghost use Rattle.task_check.specs.Accepted.{number_of};
 
-use coati_text::put_decimal;
+use crate::output::{put, put_number};
+use crate::source_fault::SourceFault;
 use coati_word::OutOfMemory;
 use std::alloc::Global;
+use task_check::Rule;
 
 /// Why an input is not served.
 #[derive(Clone, Copy, Debug, PartialEq, Eq)]
 pub(crate) enum Refusal {
-    /// At this place of the source stands a byte that starts nothing.
-    Lexical(u32),
-    /// At this place of the source stands a number that is none.
-    Number(u32),
-    /// With this token of the source no program goes on, or its tokens end before it.
-    Syntax(u32),
-    /// This token of the source stands too deep.
-    Deep(u32),
-    /// The input is of a form that is not served yet.
+    /// What is wrong with its source.
+    Source(SourceFault),
+    /// It is of a form that is not served yet.
     Later,
 }
 
@@ -25,22 +22,87 @@ impl Refusal {
     pub(crate) fn text(self, alloc: Global) -> Result<Vec<u8>, OutOfMemory>
         ensures { IfOk result (λ text. text.items ≡ refusal_text self) }
     {
-        match self {
-            Refusal::Lexical(at) => refused_at(alloc, b"refused lexical ", at),
-            Refusal::Number(at) => refused_at(alloc, b"refused number ", at),
-            Refusal::Syntax(token) => refused_at(alloc, b"refused syntax ", token),
-            Refusal::Deep(token) => refused_at(alloc, b"refused deep ", token),
-            Refusal::Later => Vec::from_slice(alloc, b"refused later\n").map_err(|_| OutOfMemory),
-        }
+        let mut out = Vec::from_slice(alloc, b"refused ").map_err(|_| OutOfMemory)?;
+        put_reason(&mut out, self)?;
+        put(&mut out, b"\n")?;
+        Ok(out)
     }
 }
 
-/// A reason, its place, and the end of the line.
-fn refused_at(alloc: Global, reason: &[u8], at: u32) -> Result<Vec<u8>, OutOfMemory>
-    ensures { IfOk result (λ text. text.items ≡ reason.now ++ decimal at ++ codes "\n") }
+fn put_reason(out: &mut Vec<u8>, refusal: Refusal) -> Result<(), OutOfMemory>
+    ensures { OnOk result (out.new.items ≡ out.old.items ++ reason_text refusal) }
 {
-    let mut text = Vec::from_slice(alloc, reason).map_err(|_| OutOfMemory)?;
-    put_decimal(&mut text, at)?;
-    text.push(b'\n').map_err(|_| OutOfMemory)?;
-    Ok(text)
+    match refusal {
+        Refusal::Source(fault) => put_fault(out, fault),
+        Refusal::Later => put(out, b"later"),
+    }
+}
+
+fn put_fault(out: &mut Vec<u8>, fault: SourceFault) -> Result<(), OutOfMemory>
+    ensures { OnOk result (out.new.items ≡ out.old.items ++ fault_text fault) }
+{
+    match fault {
+        SourceFault::Lexical(at) => put_number(out, b"lexical", at),
+        SourceFault::Number(at) => put_number(out, b"number", at),
+        SourceFault::Syntax(token) => put_number(out, b"syntax", token),
+        SourceFault::Deep(token) => put_number(out, b"deep", token),
+        SourceFault::Rule(rule, at) => put_broken(out, rule, at),
+    }
+}
+
+fn put_broken(out: &mut Vec<u8>, rule: Rule, at: u32) -> Result<(), OutOfMemory>
+    ensures { OnOk result (out.new.items ≡ out.old.items ++ fault_text (SourceFault.Rule rule at)) }
+{
+    put_number(out, b"rule", number(rule))?;
+    put(out, b" ")?;
+    put_rule(out, rule)?;
+    put_number(out, b" at", at)
+}
+
+/// The number of a rule.
+fn number(rule: Rule) -> u32
+    ensures { result ≡ number_of rule }
+{
+    match rule {
+        Rule::TwiceNamed => 1,
+        Rule::Unknown => 2,
+        Rule::WrongKind => 3,
+        Rule::BadCount => 4,
+        Rule::BadBuffer => 5,
+        Rule::TooManyWords => 6,
+        Rule::TooManyTasks => 7,
+        Rule::NoEnding => 8,
+        Rule::EarlyEnding => 9,
+        Rule::IntoTx => 10,
+        Rule::TopReadsNv => 11,
+        Rule::GiveShape => 12,
+        Rule::LoopAssigned => 13,
+        Rule::TooManyLocals => 14,
+        Rule::TooDeepStack => 15,
+        Rule::TooLong(_) => 16,
+    }
+}
+
+/// The name of a rule, and the number that it tells.
+fn put_rule(out: &mut Vec<u8>, rule: Rule) -> Result<(), OutOfMemory>
+    ensures { OnOk result (out.new.items ≡ out.old.items ++ rule_text rule) }
+{
+    match rule {
+        Rule::TwiceNamed => put(out, b"TwiceNamed"),
+        Rule::Unknown => put(out, b"Unknown"),
+        Rule::WrongKind => put(out, b"WrongKind"),
+        Rule::BadCount => put(out, b"BadCount"),
+        Rule::BadBuffer => put(out, b"BadBuffer"),
+        Rule::TooManyWords => put(out, b"TooManyWords"),
+        Rule::TooManyTasks => put(out, b"TooManyTasks"),
+        Rule::NoEnding => put(out, b"NoEnding"),
+        Rule::EarlyEnding => put(out, b"EarlyEnding"),
+        Rule::IntoTx => put(out, b"IntoTx"),
+        Rule::TopReadsNv => put(out, b"TopReadsNv"),
+        Rule::GiveShape => put(out, b"GiveShape"),
+        Rule::LoopAssigned => put(out, b"LoopAssigned"),
+        Rule::TooManyLocals => put(out, b"TooManyLocals"),
+        Rule::TooDeepStack => put(out, b"TooDeepStack"),
+        Rule::TooLong(number) => put_number(out, b"TooLong", number),
+    }
 }

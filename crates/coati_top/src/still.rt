@@ -8,6 +8,7 @@ use crate::{Command, Done, Status, command_of};
 use coati_io::{ReadEnd, Sink, Source, read_all, write_all};
 use coati_word::limits::INPUT_BYTES;
 use std::alloc::Global;
+use task_check::laws::refused_is_not_accepted;
 use task_lex::each_source_has_one_answer;
 use task_parse::{a_list_is_one_program, each_list_has_one_answer};
 
@@ -27,6 +28,7 @@ pub fn coati_still<S: Source, K: Sink>(
     each_source_has_one_answer();
     a_list_is_one_program();
     each_list_has_one_answer();
+    refused_is_not_accepted();
     match command_of(words) {
         None => Done {
             status: deliver(output, Status::Usage, USAGE),

@@ -9,7 +9,7 @@ pub returns : goal.returns
 returns c =
     let program = c.run_to_end.ensures.program ∙ ap (λ (b : Whole). b.program) c.in_ok-board.ensures in
     let limit = c.run_to_end.ensures.limit ∙ ap (λ (b : Whole). b.limit) c.in_ok-board.ensures in
-    ran c.run_to_end.new.board
+    ran c.args.mode c.run_to_end.new.board refl
     (record {
       asked = subst (λ (p : Program). AsksFor c.args.input.now p c.run_to_end.new.board.limit) (sym program)
           (rw limit c.requires);

@@ -15,5 +15,6 @@ returns-in-Some-clause-complete g c =
       program = c.a_list_is_one_program.ensures;
       syntax = c.each_list_has_one_answer.ensures.program;
       deep = c.each_list_has_one_answer.ensures.free;
+      rule = c.refused_is_not_accepted.ensures;
     } in
     rw is (completes_explained one c.in-Some.command c.run.result.status input output c.run.result.board c.run.ensures.explained)

@@ -8,7 +8,7 @@ use Rattle.coati_board.proofs.board.Board.close.Goals as goal
 pub invariant_of-self : goal.invariant_of-self
 invariant_of-self c =
     let open_ : end_of c.self.inside.device.history.marks ≡ None = ap (λ (w : Whole). end_of w.device.history.marks) c.self.view_is ∙ c.requires.open in
-    closed_board c.self.inside.program c.self.inside.limit c.self.inside.device c.self.inside.device.clock c.if-is_idle.end c.push.new.self c.self.invariant open_ c.push.ensures
+    closed_board c.self.inside.checked c.self.inside.limit c.self.inside.device c.self.inside.device.clock c.if-is_idle.end c.push.new.self c.self.invariant open_ c.push.ensures
 
 pub returns-clause-closed : goal.returns-clause-closed
 returns-clause-closed c =

@@ -1,0 +1,10 @@
+use Rattle.std.proofs.Common.{subst}
+use Rattle.task_check.specs.Accepted.{IsAccepted}
+use Rattle.task_check.proofs.SizesHold.{sizes}
+use Rattle.task_check.proofs.checked.Checked.program.Goals as goal
+
+pub returns-clause-accepted : goal.returns-clause-accepted
+returns-clause-accepted c = subst IsAccepted c.self.view_is c.self.invariant.0
+
+pub returns-clause-sizes : goal.returns-clause-sizes
+returns-clause-sizes c = sizes c.self.inside.program c.self.invariant.0 c.self.invariant.1

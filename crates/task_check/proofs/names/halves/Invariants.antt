@@ -1,0 +1,7 @@
+use Rattle.std.proofs.Common.{◌≡◌, drop, map}
+use Rattle.task_check.specs.Mentions.{in_turn, halves_part}
+use Rattle.task_check.specs.Walk.{behind}
+use Rattle.task_check.proofs.names.halves.Given as goal
+
+abbrev pub invariant-loop-event : goal.invariant-loop-event
+invariant-loop-event l = behind (in_turn (map halves_part (drop l.event-index l.events))) l.walk ≡ behind (in_turn (map halves_part l.events)) l.initial.walk

@@ -1,0 +1,71 @@
+ghost use Rattle.std.specs.Prelude.{◌≡◌, flat_map, map};
+ghost use Rattle.task_syntax.specs.Names.{tasks_of_unit};
+ghost use Rattle.task_check.specs.Bodies.{bodies, halves, task_body};
+ghost use Rattle.task_check.specs.BodyRules.{broken_in};
+ghost use Rattle.task_check.specs.Least.{least};
+
+use super::body::Body;
+use super::body_rule::BodyRule;
+use crate::least::lesser;
+use std::slice;
+use task_syntax::{Event, Program, TaskDecl, UnitDecl};
+
+/// The least place where a body breaks the rule.
+#[tactic(auto, using(crate::proofs::LeastParts::parts))]
+pub(crate) fn least_in_bodies(rule: BodyRule, program: &Program) -> Option<u32>
+    ensures { result ≡ least (flat_map (broken_in rule) (bodies program.now)) }
+{
+    let tasks = least_in_units(rule, program.units.as_slice());
+    lesser(tasks, least_in_events(rule, program.events.as_slice()))
+}
+
+#[tactic(auto, using(crate::proofs::LeastParts::parts))]
+fn least_in_units(rule: BodyRule, units: &[UnitDecl]) -> Option<u32>
+    ensures { result ≡ least (flat_map (broken_in rule) (map task_body (flat_map tasks_of_unit units.now))) }
+{
+    let mut found = None;
+    for unit in units {
+        found = lesser(found, least_in_tasks(rule, tasks_of(unit)));
+    }
+    found
+}
+
+/// The tasks of a unit.
+pub(crate) fn tasks_of(unit: &UnitDecl) -> &[TaskDecl]
+    ensures { result.now ≡ tasks_of_unit unit.now }
+{
+    match unit {
+        UnitDecl::Lone(task) => slice::from_ref(task),
+        UnitDecl::Tx(tx) => tx.tasks.as_slice(),
+    }
+}
+
+#[tactic(auto, using(crate::proofs::LeastParts::parts))]
+fn least_in_tasks(rule: BodyRule, tasks: &[TaskDecl]) -> Option<u32>
+    ensures { result ≡ least (flat_map (broken_in rule) (map task_body tasks.now)) }
+{
+    let mut found = None;
+    for task in tasks {
+        found = lesser(found, rule.least_in(&Body::of_task(task)));
+    }
+    found
+}
+
+#[tactic(auto, using(crate::proofs::LeastParts::parts))]
+fn least_in_events(rule: BodyRule, events: &[Event]) -> Option<u32>
+    ensures { result ≡ least (flat_map (broken_in rule) (flat_map halves events.now)) }
+{
+    let mut found = None;
+    for event in events {
+        found = lesser(found, least_in_halves(rule, event));
+    }
+    found
+}
+
+#[tactic(auto, using(crate::proofs::LeastParts::parts))]
+fn least_in_halves(rule: BodyRule, event: &Event) -> Option<u32>
+    ensures { result ≡ least (flat_map (broken_in rule) (halves event.now)) }
+{
+    let top = rule.least_in(&Body::top_of(event));
+    lesser(top, rule.least_in(&Body::bottom_of(event)))
+}

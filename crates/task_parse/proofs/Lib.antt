@@ -1,6 +1,7 @@
 pub mod Accepts
 pub mod Answering
 pub mod Completes
+pub mod Counted
 pub mod Examples
 pub mod Expressions
 pub mod Follow

@@ -1,5 +1,7 @@
--- What was read behind a step was read before it.
-use Rattle.std.proofs.Common.{◌≡◌, List, [], ◌∷◌, ◌++◌, Result, Ok, Err, IfOk, ap, ◌∙◌}
+-- What was read behind a step was read before it, and the ends of what is read, by equations.
+use Rattle.std.proofs.Common.{◌≡◌, List, [], ◌∷◌, ◌++◌, Result, Ok, Err, IfOk, ap, sym, ◌∙◌, subst}
+use Rattle.task_parse.specs.Grammar.{Form, Reads}
+use Rattle.task_parse.specs.Lexeme.{Lexeme}
 use Rattle.task_parse.specs.Machine.{Gives, Part, Spot, judge, seen}
 use Rattle.task_parse.specs.declared.fault.ParseFault.{ParseFault}
 
@@ -18,3 +20,9 @@ also P Q (Err e) f h = tt
 pub not_empty : {X : Type 0} (items : List X) (item : X) → items ++ item ∷ [] ≡ [] → ⊥
 not_empty [] item h = cc
 not_empty (x ∷ items) item h = cc
+
+pub from : {X : Form} {a b c : List Lexeme} → a ≡ b → Reads X b c → Reads X a c
+from {X} {c = c} h d = subst (λ w. Reads X w c) (sym h) d
+
+pub upto : {X : Form} {a b c : List Lexeme} → b ≡ c → Reads X a b → Reads X a c
+upto {X} {a} h d = subst (λ w. Reads X a w) h d

@@ -11,7 +11,7 @@ pub record Spells (source : List ℕ) (tokens : List Token) (program : Program) 
   pub derives : Derives (lexemes source tokens) program
   pub free : AreFree start (lexemes source tokens)
 
--- some program's list of tokens begins with these
+-- some program's list of tokens begins with these; the text of a name and the size of a number matter to no rule of the grammar
 abbrev pub Begins : List Lexeme → Type 0
 Begins list = (more : List Lexeme) × (program : Program) × Derives (list ++ more) program
 

@@ -1,6 +1,7 @@
 pub mod Answer
 pub mod Bars
 pub mod Climbs
+pub mod Count
 pub mod Faults
 pub mod Grammar
 pub mod Lexeme

@@ -18,91 +18,101 @@ use task_syntax::Stmt;
 
 /// Reads statements in braces.
 #[cycle(block)]
-pub(crate) fn block(alloc: Global, c: &mut Cursor<'_>) -> Result<Items<Stmt>, ParseFault>
-    ensures reads { IfOk result (λ block. Reads (Form.Block block) c.old.rest c.new.rest) }
-    ensures gives { Gives c.old (block_then []) c.new (λ _. []) result }
-    ensures shrinks { OnOk result (length c.new.rest < length c.old.rest) }
+pub(crate) fn block(alloc: Global, cursor: &mut Cursor<'_>) -> Result<Items<Stmt>, ParseFault>
+    ensures reads { IfOk result
+        (λ block. Reads (Form.Block block) cursor.old.rest cursor.new.rest) }
+    ensures gives { Gives cursor.old (block_then []) cursor.new (λ _. []) result }
+    ensures shrinks { OnOk result (length cursor.new.rest < length cursor.old.rest) }
 {
-    c.open(Symbol::OpenBrace)?;
-    let block = statements(alloc, c)?;
+    cursor.open(Symbol::OpenBrace)?;
+    let block = statements(alloc, cursor)?;
     Ok(block)
 }
 
 /// Reads statements, and the brace that closes their block.
 #[cycle(block)]
-fn statements(alloc: Global, c: &mut Cursor<'_>) -> Result<Items<Stmt>, ParseFault>
-    ensures reads { IfOk result (λ statements. Reads (Form.Rest statements) c.old.rest c.new.rest) }
-    ensures gives { Gives c.old (Part.Body ∷ []) c.new (λ _. []) result }
-    ensures shrinks { OnOk result (length c.new.rest < length c.old.rest) }
+fn statements(alloc: Global, cursor: &mut Cursor<'_>) -> Result<Items<Stmt>, ParseFault>
+    ensures reads { IfOk result
+        (λ statements. Reads (Form.Rest statements) cursor.old.rest cursor.new.rest) }
+    ensures gives { Gives cursor.old (Part.Body ∷ []) cursor.new (λ _. []) result }
+    ensures shrinks { OnOk result (length cursor.new.rest < length cursor.old.rest) }
 {
     let mut statements = Items::new(alloc);
-    'more: while !c.is_at(Symbol::CloseBrace) {
-        let next = statement(alloc, c)?;
+    while !cursor.is_at(Symbol::CloseBrace) {
+        let next = statement(alloc, cursor)?;
         statements.push(next)?;
     }
-    c.close(Symbol::CloseBrace)?;
+    cursor.close(Symbol::CloseBrace)?;
     Ok(statements)
 }
 
 #[cycle(block)]
-fn statement(alloc: Global, c: &mut Cursor<'_>) -> Result<Stmt, ParseFault>
-    requires { is_at sign.CloseBrace c.old.rest ≡ false }
-    ensures reads { IfOk result (λ statement. Reads (Form.Statement statement) c.old.rest c.new.rest) }
-    ensures gives { Gives c.old (Part.Body ∷ []) c.new (λ _. Part.Body ∷ []) result }
-    ensures shrinks { OnOk result (length c.new.rest < length c.old.rest) }
+fn statement(alloc: Global, cursor: &mut Cursor<'_>) -> Result<Stmt, ParseFault>
+    requires { is_at sign.CloseBrace cursor.old.rest ≡ false }
+    ensures reads { IfOk result
+        (λ statement. Reads (Form.Statement statement) cursor.old.rest cursor.new.rest) }
+    ensures gives { Gives cursor.old (Part.Body ∷ []) cursor.new (λ _. Part.Body ∷ []) result }
+    ensures shrinks { OnOk result (length cursor.new.rest < length cursor.old.rest) }
 {
-    match c.peek() {
-        Some(TokenKind::Name) => assignment(alloc, c),
-        Some(TokenKind::Keyword(Keyword::Let)) => local(alloc, c),
-        Some(TokenKind::Keyword(Keyword::If)) => choice(alloc, c),
-        Some(TokenKind::Keyword(Keyword::Repeat)) => repetition(alloc, c),
-        Some(TokenKind::Keyword(Keyword::Next)) => next(alloc, c),
-        Some(TokenKind::Keyword(Keyword::Halt)) => halt(c),
-        Some(TokenKind::Keyword(Keyword::Give)) => give(alloc, c),
-        _ => Err(c.misplaced()),
+    match cursor.peek() {
+        Some(TokenKind::Name) => assignment(alloc, cursor),
+        Some(TokenKind::Keyword(Keyword::Let)) => local(alloc, cursor),
+        Some(TokenKind::Keyword(Keyword::If)) => choice(alloc, cursor),
+        Some(TokenKind::Keyword(Keyword::Repeat)) => repetition(alloc, cursor),
+        Some(TokenKind::Keyword(Keyword::Next)) => next(alloc, cursor),
+        Some(TokenKind::Keyword(Keyword::Halt)) => halt(cursor),
+        Some(TokenKind::Keyword(Keyword::Give)) => give(alloc, cursor),
+        _ => Err(cursor.misplaced()),
     }
 }
 
 /// `if e { .. }`, and `else { .. }` where it follows.
 #[cycle(block)]
-fn choice(alloc: Global, c: &mut Cursor<'_>) -> Result<Stmt, ParseFault>
-    ensures reads { IfOk result (λ statement. Reads (Form.Statement statement) c.old.rest c.new.rest) }
-    ensures gives { Gives c.old (Part.Word keyword.If ∷ expression_then (block_then (Part.Otherwise ∷ []))) c.new (λ _. []) result }
-    ensures shrinks { OnOk result (length c.new.rest < length c.old.rest) }
+fn choice(alloc: Global, cursor: &mut Cursor<'_>) -> Result<Stmt, ParseFault>
+    ensures reads { IfOk result
+        (λ statement. Reads (Form.Statement statement) cursor.old.rest cursor.new.rest) }
+    ensures gives { Gives cursor.old
+        (Part.Word keyword.If ∷ expression_then (block_then (Part.Otherwise ∷ [])))
+        cursor.new (λ _. []) result }
+    ensures shrinks { OnOk result (length cursor.new.rest < length cursor.old.rest) }
 {
-    c.word(Keyword::If)?;
-    let condition = expression(alloc, c)?;
-    let first = block(alloc, c)?;
-    let other = otherwise(alloc, c)?;
+    cursor.word(Keyword::If)?;
+    let condition = expression(alloc, cursor)?;
+    let first = block(alloc, cursor)?;
+    let other = otherwise(alloc, cursor)?;
     Ok(Stmt::If(condition, first, other))
 }
 
 /// `else { .. }`, where it follows.
 #[cycle(block)]
-fn otherwise(alloc: Global, c: &mut Cursor<'_>) -> Result<Option<Items<Stmt>>, ParseFault>
-    ensures reads { IfOk result (λ block. Reads (Form.Otherwise block) c.old.rest c.new.rest) }
-    ensures gives { Gives c.old (Part.Otherwise ∷ []) c.new (λ _. []) result }
-    ensures shrinks { OnOk result (length c.new.rest ≤ length c.old.rest) }
+fn otherwise(alloc: Global, cursor: &mut Cursor<'_>) -> Result<Option<Items<Stmt>>, ParseFault>
+    ensures reads { IfOk result
+        (λ block. Reads (Form.Otherwise block) cursor.old.rest cursor.new.rest) }
+    ensures gives { Gives cursor.old (Part.Otherwise ∷ []) cursor.new (λ _. []) result }
+    ensures shrinks { OnOk result (length cursor.new.rest ≤ length cursor.old.rest) }
 {
-    if !c.is_at_word(Keyword::Else) {
+    if !cursor.is_at_word(Keyword::Else) {
         return Ok(None);
     }
-    c.word(Keyword::Else)?;
-    let block = block(alloc, c)?;
+    cursor.word(Keyword::Else)?;
+    let block = block(alloc, cursor)?;
     Ok(Some(block))
 }
 
 /// `repeat name < count { .. }`
 #[cycle(block)]
-fn repetition(alloc: Global, c: &mut Cursor<'_>) -> Result<Stmt, ParseFault>
-    ensures reads { IfOk result (λ statement. Reads (Form.Statement statement) c.old.rest c.new.rest) }
-    ensures gives { Gives c.old (Part.Word keyword.Repeat ∷ Part.AName ∷ Part.Sign sign.Below ∷ Part.ANumber ∷ block_then []) c.new (λ _. []) result }
-    ensures shrinks { OnOk result (length c.new.rest < length c.old.rest) }
+fn repetition(alloc: Global, cursor: &mut Cursor<'_>) -> Result<Stmt, ParseFault>
+    ensures reads { IfOk result
+        (λ statement. Reads (Form.Statement statement) cursor.old.rest cursor.new.rest) }
+    ensures gives { Gives cursor.old
+        (Part.Word keyword.Repeat ∷ Part.AName ∷ Part.Sign sign.Below ∷ Part.ANumber ∷ block_then [])
+        cursor.new (λ _. []) result }
+    ensures shrinks { OnOk result (length cursor.new.rest < length cursor.old.rest) }
 {
-    c.word(Keyword::Repeat)?;
-    let name = c.name(alloc)?;
-    c.sign(Symbol::Below)?;
-    let count = c.number()?;
-    let block = block(alloc, c)?;
+    cursor.word(Keyword::Repeat)?;
+    let name = cursor.name(alloc)?;
+    cursor.sign(Symbol::Below)?;
+    let count = cursor.number()?;
+    let block = block(alloc, cursor)?;
     Ok(Stmt::Repeat(name, count.value, block))
 }

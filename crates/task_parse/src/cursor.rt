@@ -1,8 +1,8 @@
-ghost use Rattle.std.specs.Prelude.{◌≡◌, ◌≢◌, ◌↔◌, ◌+◌, ◌^◌, ◌<◌, ◌≤◌, ℕ, ◌∷◌, [], length, true, false, All, IsTrue, IfOk, OnOk, Some, None};
+ghost use Rattle.std.specs.Prelude.{◌≡◌, ◌^◌, ◌<◌, ◌≤◌, ◌∷◌, [], length, true, false, All, IfOk, OnOk};
 ghost use Rattle.task_lex.specs.Span.{IsTokenOf};
-ghost use Rattle.task_parse.specs.Bars.{closes, opens};
+ghost use Rattle.task_parse.specs.Bars.{closes, most_open, opens};
 ghost use Rattle.task_parse.specs.Lexeme.{Lexeme, lexemes};
-ghost use Rattle.task_parse.specs.Machine.{Gives, Part, Spot};
+ghost use Rattle.task_parse.specs.Machine.{Gives, Part};
 ghost use Rattle.task_parse.specs.Spots.{first_kind, first_operator, first_unary, is_at, is_at_name, is_at_word, is_name, is_sign, is_word, moved, none_left};
 ghost use Rattle.task_parse.specs.declared.fault.ParseFault.TheVariants as fault;
 
@@ -150,7 +150,7 @@ impl<'a> Cursor<'a> {
     /// Goes behind the token that comes next, where so many brackets are open then.
     fn go_on(&mut self, depth: usize)
         requires some { none_left self.old.rest ≡ false }
-        requires shallow { depth ≤ 64 }
+        requires shallow { depth ≤ most_open }
         ensures moved { self.new ≡ moved self.old depth }
         ensures shrinks { length self.new.rest < length self.old.rest }
     {
@@ -245,7 +245,8 @@ impl<'a> Cursor<'a> {
 
     /// Reads a number.
     pub(crate) fn number(&mut self) -> Result<Number, ParseFault>
-        ensures reads { IfOk result (λ n. self.old.rest ≡ Lexeme.number n.value n.at ∷ self.new.rest) }
+        ensures reads { IfOk result
+            (λ n. self.old.rest ≡ Lexeme.number n.value n.at ∷ self.new.rest) }
         ensures gives { Gives self.old (Part.ANumber ∷ []) self.new (λ _. []) result }
         ensures shrinks { OnOk result (length self.new.rest < length self.old.rest) }
     {

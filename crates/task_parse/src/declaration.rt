@@ -1,6 +1,6 @@
 //! Variables and the buffer.
 
-ghost use Rattle.std.specs.Prelude.{◌≡◌, ◌≢◌, ◌<◌, ◌≤◌, ◌∷◌, [], length, IfOk, OnOk};
+ghost use Rattle.std.specs.Prelude.{◌≢◌, ◌<◌, ◌≤◌, ◌∷◌, [], length, IfOk, OnOk};
 ghost use Rattle.task_lex.specs.declared.keyword.Keyword.TheVariants as keyword;
 ghost use Rattle.task_lex.specs.declared.symbol.Symbol.TheVariants as sign;
 ghost use Rattle.task_parse.specs.Grammar.{Form, Reads};
@@ -16,97 +16,106 @@ use task_lex::{Keyword, Symbol};
 use task_syntax::{Init, Number, Var};
 
 /// Reads one variable or more.
-pub(crate) fn variables(alloc: Global, c: &mut Cursor<'_>) -> Result<Items<Var>, ParseFault>
-    ensures reads { IfOk result (λ vars. Reads (Form.Variables vars) c.old.rest c.new.rest) }
+pub(crate) fn variables(alloc: Global, cursor: &mut Cursor<'_>) -> Result<Items<Var>, ParseFault>
+    ensures reads { IfOk result
+        (λ vars. Reads (Form.Variables vars) cursor.old.rest cursor.new.rest) }
     ensures some { IfOk result (λ vars. vars ≢ []) }
-    ensures gives { Gives c.old (Part.Word keyword.Nv ∷ variable_then (Part.Variables ∷ [])) c.new (λ _. []) result }
+    ensures gives { Gives cursor.old
+        (Part.Word keyword.Nv ∷ variable_then (Part.Variables ∷ []))
+        cursor.new (λ _. []) result }
 {
     let mut vars = Items::new(alloc);
-    let first = variable(alloc, c)?;
+    let first = variable(alloc, cursor)?;
     vars.push(first)?;
-    'more: while c.is_at_word(Keyword::Nv) {
-        let var = variable(alloc, c)?;
+    while cursor.is_at_word(Keyword::Nv) {
+        let var = variable(alloc, cursor)?;
         vars.push(var)?;
     }
     Ok(vars)
 }
 
 /// `nv name[length] = init;`, with or without a length and values.
-fn variable(alloc: Global, c: &mut Cursor<'_>) -> Result<Var, ParseFault>
-    ensures reads { IfOk result (λ var. Reads (Form.Variable var) c.old.rest c.new.rest) }
-    ensures gives { Gives c.old (Part.Word keyword.Nv ∷ variable_then []) c.new (λ _. []) result }
-    ensures shrinks { OnOk result (length c.new.rest < length c.old.rest) }
+fn variable(alloc: Global, cursor: &mut Cursor<'_>) -> Result<Var, ParseFault>
+    ensures reads { IfOk result (λ var. Reads (Form.Variable var) cursor.old.rest cursor.new.rest) }
+    ensures gives { Gives cursor.old
+        (Part.Word keyword.Nv ∷ variable_then [])
+        cursor.new (λ _. []) result }
+    ensures shrinks { OnOk result (length cursor.new.rest < length cursor.old.rest) }
 {
-    c.word(Keyword::Nv)?;
-    let name = c.name(alloc)?;
-    let length = array_length(c)?;
-    let init = init(alloc, c)?;
-    c.sign(Symbol::Semicolon)?;
+    cursor.word(Keyword::Nv)?;
+    let name = cursor.name(alloc)?;
+    let length = array_length(cursor)?;
+    let init = init(alloc, cursor)?;
+    cursor.sign(Symbol::Semicolon)?;
     Ok(Var { name, length, init })
 }
 
 /// `[length]`, where it follows.
-fn array_length(c: &mut Cursor<'_>) -> Result<Option<u16>, ParseFault>
-    ensures reads { IfOk result (λ len. Reads (Form.Length len) c.old.rest c.new.rest) }
-    ensures gives { Gives c.old (Part.Length ∷ []) c.new (λ _. []) result }
-    ensures shrinks { OnOk result (length c.new.rest ≤ length c.old.rest) }
+fn array_length(cursor: &mut Cursor<'_>) -> Result<Option<u16>, ParseFault>
+    ensures reads { IfOk result (λ len. Reads (Form.Length len) cursor.old.rest cursor.new.rest) }
+    ensures gives { Gives cursor.old (Part.Length ∷ []) cursor.new (λ _. []) result }
+    ensures shrinks { OnOk result (length cursor.new.rest ≤ length cursor.old.rest) }
 {
-    if !c.is_at(Symbol::OpenBracket) {
+    if !cursor.is_at(Symbol::OpenBracket) {
         return Ok(None);
     }
-    c.open(Symbol::OpenBracket)?;
-    let length = c.number()?;
-    c.close(Symbol::CloseBracket)?;
+    cursor.open(Symbol::OpenBracket)?;
+    let length = cursor.number()?;
+    cursor.close(Symbol::CloseBracket)?;
     Ok(Some(length.value))
 }
 
 /// `= value` or `= { value, .. }`, where it follows.
-fn init(alloc: Global, c: &mut Cursor<'_>) -> Result<Init, ParseFault>
-    ensures reads { IfOk result (λ given. Reads (Form.Given given) c.old.rest c.new.rest) }
-    ensures gives { Gives c.old (Part.Given ∷ []) c.new (λ _. []) result }
-    ensures shrinks { OnOk result (length c.new.rest ≤ length c.old.rest) }
+fn init(alloc: Global, cursor: &mut Cursor<'_>) -> Result<Init, ParseFault>
+    ensures reads { IfOk result
+        (λ given. Reads (Form.Given given) cursor.old.rest cursor.new.rest) }
+    ensures gives { Gives cursor.old (Part.Given ∷ []) cursor.new (λ _. []) result }
+    ensures shrinks { OnOk result (length cursor.new.rest ≤ length cursor.old.rest) }
 {
-    if !c.is_at(Symbol::Assign) {
+    if !cursor.is_at(Symbol::Assign) {
         return Ok(Init::None);
     }
-    c.sign(Symbol::Assign)?;
-    if c.is_at(Symbol::OpenBrace) {
-        let values = values(alloc, c)?;
+    cursor.sign(Symbol::Assign)?;
+    if cursor.is_at(Symbol::OpenBrace) {
+        let values = values(alloc, cursor)?;
         return Ok(Init::Many(values));
     }
-    let value = c.number()?;
+    let value = cursor.number()?;
     Ok(Init::One(value.value))
 }
 
 /// `{ value, .. }`, with one value or more.
-fn values(alloc: Global, c: &mut Cursor<'_>) -> Result<Items<u16>, ParseFault>
-    ensures reads { IfOk result (λ values. Reads (Form.Given (init.Many values)) (Lexeme.sign sign.Assign ∷ c.old.rest) c.new.rest) }
-    ensures gives { Gives c.old (Part.Sign sign.OpenBrace ∷ Part.ANumber ∷ Part.Numbers ∷ Part.Sign sign.CloseBrace ∷ []) c.new (λ _. []) result }
-    ensures shrinks { OnOk result (length c.new.rest ≤ length c.old.rest) }
+fn values(alloc: Global, cursor: &mut Cursor<'_>) -> Result<Items<u16>, ParseFault>
+    ensures reads { IfOk result
+        (λ values. Reads (Form.Given (init.Many values)) (Lexeme.sign sign.Assign ∷ cursor.old.rest) cursor.new.rest) }
+    ensures gives { Gives cursor.old
+        (Part.Sign sign.OpenBrace ∷ Part.ANumber ∷ Part.Numbers ∷ Part.Sign sign.CloseBrace ∷ [])
+        cursor.new (λ _. []) result }
+    ensures shrinks { OnOk result (length cursor.new.rest ≤ length cursor.old.rest) }
 {
-    c.open(Symbol::OpenBrace)?;
+    cursor.open(Symbol::OpenBrace)?;
     let mut values = Items::new(alloc);
-    let first = c.number()?;
+    let first = cursor.number()?;
     values.push(first.value)?;
-    'more: while c.is_at(Symbol::Comma) {
-        c.sign(Symbol::Comma)?;
-        let value = c.number()?;
+    while cursor.is_at(Symbol::Comma) {
+        cursor.sign(Symbol::Comma)?;
+        let value = cursor.number()?;
         values.push(value.value)?;
     }
-    c.close(Symbol::CloseBrace)?;
+    cursor.close(Symbol::CloseBrace)?;
     Ok(values)
 }
 
 /// `buffer number;`, where it follows.
-pub(crate) fn buffer(c: &mut Cursor<'_>) -> Result<Option<Number>, ParseFault>
-    ensures reads { IfOk result (λ size. Reads (Form.Buffer size) c.old.rest c.new.rest) }
-    ensures gives { Gives c.old (Part.Buffer ∷ []) c.new (λ _. []) result }
+pub(crate) fn buffer(cursor: &mut Cursor<'_>) -> Result<Option<Number>, ParseFault>
+    ensures reads { IfOk result (λ size. Reads (Form.Buffer size) cursor.old.rest cursor.new.rest) }
+    ensures gives { Gives cursor.old (Part.Buffer ∷ []) cursor.new (λ _. []) result }
 {
-    if !c.is_at_word(Keyword::Buffer) {
+    if !cursor.is_at_word(Keyword::Buffer) {
         return Ok(None);
     }
-    c.word(Keyword::Buffer)?;
-    let size = c.number()?;
-    c.sign(Symbol::Semicolon)?;
+    cursor.word(Keyword::Buffer)?;
+    let size = cursor.number()?;
+    cursor.sign(Symbol::Semicolon)?;
     Ok(Some(size))
 }

@@ -1,6 +1,6 @@
 //! Events.
 
-ghost use Rattle.std.specs.Prelude.{◌≡◌, ◌<◌, ◌≤◌, ◌∷◌, [], length, IfOk, OnOk};
+ghost use Rattle.std.specs.Prelude.{◌<◌, ◌≤◌, ◌∷◌, [], length, IfOk, OnOk};
 ghost use Rattle.task_lex.specs.declared.keyword.Keyword.TheVariants as keyword;
 ghost use Rattle.task_parse.specs.Grammar.{Form, Reads};
 ghost use Rattle.task_parse.specs.Machine.{Gives, Part, event_then};
@@ -14,38 +14,42 @@ use task_lex::{Keyword, Symbol};
 use task_syntax::{Event, Name};
 
 /// Reads any number of events.
-pub(crate) fn events(alloc: Global, c: &mut Cursor<'_>) -> Result<Items<Event>, ParseFault>
-    ensures reads { IfOk result (λ events. Reads (Form.Events events) c.old.rest c.new.rest) }
-    ensures gives { Gives c.old (Part.Events ∷ []) c.new (λ _. []) result }
+pub(crate) fn events(alloc: Global, cursor: &mut Cursor<'_>) -> Result<Items<Event>, ParseFault>
+    ensures reads { IfOk result
+        (λ events. Reads (Form.Events events) cursor.old.rest cursor.new.rest) }
+    ensures gives { Gives cursor.old (Part.Events ∷ []) cursor.new (λ _. []) result }
 {
     let mut events = Items::new(alloc);
-    'more: while c.is_at_word(Keyword::Event) {
-        let next = event(alloc, c)?;
+    while cursor.is_at_word(Keyword::Event) {
+        let next = event(alloc, cursor)?;
         events.push(next)?;
     }
     Ok(events)
 }
 
 /// `event name(argument) { top { .. } bottom(..) { .. } }`
-fn event(alloc: Global, c: &mut Cursor<'_>) -> Result<Event, ParseFault>
-    ensures reads { IfOk result (λ event. Reads (Form.OneEvent event) c.old.rest c.new.rest) }
-    ensures gives { Gives c.old (Part.Word keyword.Event ∷ event_then []) c.new (λ _. []) result }
-    ensures shrinks { OnOk result (length c.new.rest < length c.old.rest) }
+fn event(alloc: Global, cursor: &mut Cursor<'_>) -> Result<Event, ParseFault>
+    ensures reads { IfOk result
+        (λ event. Reads (Form.OneEvent event) cursor.old.rest cursor.new.rest) }
+    ensures gives { Gives cursor.old
+        (Part.Word keyword.Event ∷ event_then [])
+        cursor.new (λ _. []) result }
+    ensures shrinks { OnOk result (length cursor.new.rest < length cursor.old.rest) }
 {
-    c.word(Keyword::Event)?;
-    let name = c.name(alloc)?;
-    c.open(Symbol::OpenParen)?;
-    let argument = c.name(alloc)?;
-    c.close(Symbol::CloseParen)?;
-    c.open(Symbol::OpenBrace)?;
-    c.word(Keyword::Top)?;
-    let top = block(alloc, c)?;
-    c.word(Keyword::Bottom)?;
-    c.open(Symbol::OpenParen)?;
-    let params = parameters(alloc, c)?;
-    c.close(Symbol::CloseParen)?;
-    let bottom = block(alloc, c)?;
-    c.close(Symbol::CloseBrace)?;
+    cursor.word(Keyword::Event)?;
+    let name = cursor.name(alloc)?;
+    cursor.open(Symbol::OpenParen)?;
+    let argument = cursor.name(alloc)?;
+    cursor.close(Symbol::CloseParen)?;
+    cursor.open(Symbol::OpenBrace)?;
+    cursor.word(Keyword::Top)?;
+    let top = block(alloc, cursor)?;
+    cursor.word(Keyword::Bottom)?;
+    cursor.open(Symbol::OpenParen)?;
+    let params = parameters(alloc, cursor)?;
+    cursor.close(Symbol::CloseParen)?;
+    let bottom = block(alloc, cursor)?;
+    cursor.close(Symbol::CloseBrace)?;
     Ok(Event {
         name,
         argument,
@@ -56,20 +60,21 @@ fn event(alloc: Global, c: &mut Cursor<'_>) -> Result<Event, ParseFault>
 }
 
 /// Reads names with commas between them, or none.
-fn parameters(alloc: Global, c: &mut Cursor<'_>) -> Result<Items<Name>, ParseFault>
-    ensures reads { IfOk result (λ params. Reads (Form.Params params) c.old.rest c.new.rest) }
-    ensures gives { Gives c.old (Part.Params ∷ []) c.new (λ _. []) result }
-    ensures shrinks { OnOk result (length c.new.rest ≤ length c.old.rest) }
+fn parameters(alloc: Global, cursor: &mut Cursor<'_>) -> Result<Items<Name>, ParseFault>
+    ensures reads { IfOk result
+        (λ params. Reads (Form.Params params) cursor.old.rest cursor.new.rest) }
+    ensures gives { Gives cursor.old (Part.Params ∷ []) cursor.new (λ _. []) result }
+    ensures shrinks { OnOk result (length cursor.new.rest ≤ length cursor.old.rest) }
 {
     let mut params = Items::new(alloc);
-    if !c.is_at_name() {
+    if !cursor.is_at_name() {
         return Ok(params);
     }
-    let first = c.name(alloc)?;
+    let first = cursor.name(alloc)?;
     params.push(first)?;
-    'more: while c.is_at(Symbol::Comma) {
-        c.sign(Symbol::Comma)?;
-        let param = c.name(alloc)?;
+    while cursor.is_at(Symbol::Comma) {
+        cursor.sign(Symbol::Comma)?;
+        let param = cursor.name(alloc)?;
         params.push(param)?;
     }
     Ok(params)

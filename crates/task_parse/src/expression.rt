@@ -1,6 +1,7 @@
 //! Expressions, by precedence climbing.
 
 ghost use Rattle.std.specs.Prelude.{◌≡◌, ◌≤◌, ◌<◌, ◌∷◌, [], length, IfOk, OnOk, Some, MatchOption};
+ghost use Rattle.task_parse.specs.Bars.{most_operators};
 ghost use Rattle.task_parse.specs.Grammar.{Form, Reads};
 ghost use Rattle.task_parse.specs.Machine.{Gives, Part};
 ghost use Rattle.task_parse.specs.Operators.{level as level_of_op};
@@ -20,12 +21,12 @@ use task_syntax::{Expr, Place};
 
 /// Reads an expression.
 #[cycle(expression)]
-pub(crate) fn expression(alloc: Global, c: &mut Cursor<'_>) -> Result<Expr, ParseFault>
-    ensures reads { IfOk result (λ x. Reads (Form.Level 0 x) c.old.rest c.new.rest) }
-    ensures gives { Gives c.old (Part.Operand ∷ Part.Ops 0 ∷ []) c.new (λ _. []) result }
-    ensures shrinks { OnOk result (length c.new.rest < length c.old.rest) }
+pub(crate) fn expression(alloc: Global, cursor: &mut Cursor<'_>) -> Result<Expr, ParseFault>
+    ensures reads { IfOk result (λ x. Reads (Form.Level 0 x) cursor.old.rest cursor.new.rest) }
+    ensures gives { Gives cursor.old (Part.Operand ∷ Part.Ops 0 ∷ []) cursor.new (λ _. []) result }
+    ensures shrinks { OnOk result (length cursor.new.rest < length cursor.old.rest) }
 {
-    let (value, _) = level(alloc, c, 0, 0)?;
+    let (value, _) = level(alloc, cursor, 0, 0)?;
     Ok(value)
 }
 
@@ -34,26 +35,29 @@ pub(crate) fn expression(alloc: Global, c: &mut Cursor<'_>) -> Result<Expr, Pars
 #[cycle(expression)]
 fn level(
     alloc: Global,
-    c: &mut Cursor<'_>,
+    cursor: &mut Cursor<'_>,
     least: u8,
     operators: usize,
 ) -> Result<(Expr, usize), ParseFault>
-    requires few { operators ≤ 16 }
+    requires few { operators ≤ most_operators }
     requires low { least ≤ 8 }
-    ensures reads { IfOk result (λ read. Reads (Form.Level least read.0) c.old.rest c.new.rest) }
-    ensures below { IfOk result (λ _. Below least c.new.rest) }
-    ensures few { IfOk result (λ read. read.1 ≤ 16) }
-    ensures gives { Gives c.old (Part.Operand ∷ Part.Ops operators ∷ []) c.new (λ read. Part.Ops read.1 ∷ []) result }
-    ensures shrinks { OnOk result (length c.new.rest < length c.old.rest) }
+    ensures reads { IfOk result
+        (λ read. Reads (Form.Level least read.0) cursor.old.rest cursor.new.rest) }
+    ensures below { IfOk result (λ _. Below least cursor.new.rest) }
+    ensures few { IfOk result (λ read. read.1 ≤ most_operators) }
+    ensures gives { Gives cursor.old
+        (Part.Operand ∷ Part.Ops operators ∷ [])
+        cursor.new (λ read. Part.Ops read.1 ∷ []) result }
+    ensures shrinks { OnOk result (length cursor.new.rest < length cursor.old.rest) }
 {
-    let mut left = operand(alloc, c)?;
+    let mut left = operand(alloc, cursor)?;
     let mut count = operators;
-    'climb: while let Some(op) = operator(c, least) {
+    while let Some(op) = operator(cursor, least) {
         if count == BINARY_OPERATORS {
-            return Err(c.too_many());
+            return Err(cursor.too_many());
         }
-        c.advance();
-        let (right, after) = level(alloc, c, level_of(op) + 1, count + 1)?;
+        cursor.advance();
+        let (right, after) = level(alloc, cursor, level_of(op) + 1, count + 1)?;
         left = two(alloc, op, left, right)?;
         count = after;
     }
@@ -61,75 +65,77 @@ fn level(
 }
 
 /// The operator that comes next, if one does that binds at least so tight.
-fn operator(c: &Cursor<'_>, least: u8) -> Option<Op>
-    ensures { MatchOption result (Below least c.now.rest)
-        (λ op. (first_operator c.now.rest ≡ Some op) × (least ≤ level_of_op op)) }
+fn operator(cursor: &Cursor<'_>, least: u8) -> Option<Op>
+    ensures { MatchOption result (Below least cursor.now.rest)
+        (λ op. (first_operator cursor.now.rest ≡ Some op) × (least ≤ level_of_op op)) }
 {
-    let op = c.operator()?;
+    let op = cursor.operator()?;
     if level_of(op) < least { None } else { Some(op) }
 }
 
 /// Reads a primary, and the unary operator before it where one comes next.
 #[cycle(expression)]
-fn operand(alloc: Global, c: &mut Cursor<'_>) -> Result<Expr, ParseFault>
-    ensures reads { IfOk result (λ x. Reads (Form.Operand x) c.old.rest c.new.rest) }
-    ensures gives { Gives c.old (Part.Operand ∷ []) c.new (λ _. []) result }
-    ensures shrinks { OnOk result (length c.new.rest < length c.old.rest) }
+fn operand(alloc: Global, cursor: &mut Cursor<'_>) -> Result<Expr, ParseFault>
+    ensures reads { IfOk result (λ x. Reads (Form.Operand x) cursor.old.rest cursor.new.rest) }
+    ensures gives { Gives cursor.old (Part.Operand ∷ []) cursor.new (λ _. []) result }
+    ensures shrinks { OnOk result (length cursor.new.rest < length cursor.old.rest) }
 {
-    match c.unary() {
+    match cursor.unary() {
         Some(op) => {
-            c.advance();
-            let operand = primary(alloc, c)?;
+            cursor.advance();
+            let operand = primary(alloc, cursor)?;
             Ok(one(alloc, op, operand)?)
         }
-        None => primary(alloc, c),
+        None => primary(alloc, cursor),
     }
 }
 
 /// Reads a number, a place, or an expression in parentheses.
 #[cycle(expression)]
-fn primary(alloc: Global, c: &mut Cursor<'_>) -> Result<Expr, ParseFault>
-    ensures reads { IfOk result (λ x. Reads (Form.Primary x) c.old.rest c.new.rest) }
-    ensures gives { Gives c.old (Part.Primary ∷ []) c.new (λ _. []) result }
-    ensures shrinks { OnOk result (length c.new.rest < length c.old.rest) }
+fn primary(alloc: Global, cursor: &mut Cursor<'_>) -> Result<Expr, ParseFault>
+    ensures reads { IfOk result (λ x. Reads (Form.Primary x) cursor.old.rest cursor.new.rest) }
+    ensures gives { Gives cursor.old (Part.Primary ∷ []) cursor.new (λ _. []) result }
+    ensures shrinks { OnOk result (length cursor.new.rest < length cursor.old.rest) }
 {
-    if c.is_at_name() {
-        let place = place(alloc, c)?;
+    if cursor.is_at_name() {
+        let place = place(alloc, cursor)?;
         Ok(Expr::Get(place))
-    } else if c.is_at(Symbol::OpenParen) {
-        parentheses(alloc, c)
+    } else if cursor.is_at(Symbol::OpenParen) {
+        parentheses(alloc, cursor)
     } else {
-        let number = c.number()?;
+        let number = cursor.number()?;
         Ok(Expr::Num(number.value))
     }
 }
 
 #[cycle(expression)]
-fn parentheses(alloc: Global, c: &mut Cursor<'_>) -> Result<Expr, ParseFault>
-    ensures reads { IfOk result (λ x. Reads (Form.Primary x) c.old.rest c.new.rest) }
-    ensures gives { Gives c.old (Part.Sign sign.OpenParen ∷ Part.Operand ∷ Part.Ops 0 ∷ Part.Sign sign.CloseParen ∷ []) c.new (λ _. []) result }
-    ensures shrinks { OnOk result (length c.new.rest < length c.old.rest) }
+fn parentheses(alloc: Global, cursor: &mut Cursor<'_>) -> Result<Expr, ParseFault>
+    ensures reads { IfOk result (λ x. Reads (Form.Primary x) cursor.old.rest cursor.new.rest) }
+    ensures gives { Gives cursor.old
+        (Part.Sign sign.OpenParen ∷ Part.Operand ∷ Part.Ops 0 ∷ Part.Sign sign.CloseParen ∷ [])
+        cursor.new (λ _. []) result }
+    ensures shrinks { OnOk result (length cursor.new.rest < length cursor.old.rest) }
 {
-    c.open(Symbol::OpenParen)?;
-    let value = expression(alloc, c)?;
-    c.close(Symbol::CloseParen)?;
+    cursor.open(Symbol::OpenParen)?;
+    let value = expression(alloc, cursor)?;
+    cursor.close(Symbol::CloseParen)?;
     Ok(value)
 }
 
 /// Reads a name, and an index in brackets where one follows.
 #[cycle(expression)]
-pub(crate) fn place(alloc: Global, c: &mut Cursor<'_>) -> Result<Place, ParseFault>
-    ensures reads { IfOk result (λ p. Reads (Form.Target p) c.old.rest c.new.rest) }
-    ensures gives { Gives c.old (Part.AName ∷ Part.Index ∷ []) c.new (λ _. []) result }
-    ensures shrinks { OnOk result (length c.new.rest < length c.old.rest) }
+pub(crate) fn place(alloc: Global, cursor: &mut Cursor<'_>) -> Result<Place, ParseFault>
+    ensures reads { IfOk result (λ p. Reads (Form.Target p) cursor.old.rest cursor.new.rest) }
+    ensures gives { Gives cursor.old (Part.AName ∷ Part.Index ∷ []) cursor.new (λ _. []) result }
+    ensures shrinks { OnOk result (length cursor.new.rest < length cursor.old.rest) }
 {
-    let name = c.name(alloc)?;
-    if !c.is_at(Symbol::OpenBracket) {
+    let name = cursor.name(alloc)?;
+    if !cursor.is_at(Symbol::OpenBracket) {
         return Ok(Place::Plain(name));
     }
-    c.open(Symbol::OpenBracket)?;
-    let index = expression(alloc, c)?;
-    c.close(Symbol::CloseBracket)?;
+    cursor.open(Symbol::OpenBracket)?;
+    let index = expression(alloc, cursor)?;
+    cursor.close(Symbol::CloseBracket)?;
     let index = Boxed::new(alloc, index)?;
     Ok(Place::Item(name, index))
 }

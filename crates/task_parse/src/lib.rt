@@ -15,6 +15,10 @@ mod unit;
 
 pub use fault::ParseFault;
 pub use laws::{
-    a_list_is_one_program, each_list_has_one_answer, programs_are_accepted, the_first_fault_is_told,
+    a_list_is_one_program, each_list_has_one_answer, operators_are_counted, programs_are_accepted,
+    the_first_fault_is_told,
 };
 pub use program::parse;
+
+#[cfg(test)]
+mod tests;

@@ -1,6 +1,6 @@
 //! Whole programs.
 
-ghost use Rattle.std.specs.Prelude.{◌≡◌, ◌<◌, ◌^◌, ℕ, [], length, IfOk, IfErr, Ok, Err};
+ghost use Rattle.std.specs.Prelude.{◌≡◌, ◌<◌, ◌^◌, ℕ, length, IfOk, IfErr, Ok, Err};
 ghost use Rattle.task_lex.specs.Reading.{Tokens};
 ghost use Rattle.task_parse.specs.Answer.{Explains, IsAnswer};
 ghost use Rattle.task_parse.specs.Faults.{DeepAt, FaultAt, Spells};
@@ -38,19 +38,19 @@ pub fn parse(alloc: Global, source: &[u8], tokens: &[Token]) -> Result<Program, 
     ensures bars { (n : ℕ) → DeepAt (lexemes source.now tokens.now) n → IsAnswer result (Err (TooDeep n)) }
 {
     tokens_stand_in_their_source();
-    let mut c = Cursor::new(source, tokens);
-    program(alloc, &mut c)
+    let mut cursor = Cursor::new(source, tokens);
+    program(alloc, &mut cursor)
 }
 
 /// Reads all the tokens.
-fn program(alloc: Global, c: &mut Cursor<'_>) -> Result<Program, ParseFault>
-    ensures reads { IfOk result (Derives c.old.rest) }
-    ensures ends { Ends c.old whole_parts result }
+fn program(alloc: Global, cursor: &mut Cursor<'_>) -> Result<Program, ParseFault>
+    ensures reads { IfOk result (Derives cursor.old.rest) }
+    ensures ends { Ends cursor.old whole_parts result }
 {
-    let vars = variables(alloc, c)?;
-    let buffer = buffer(c)?;
-    let events = events(alloc, c)?;
-    let units = units(alloc, c)?;
+    let vars = variables(alloc, cursor)?;
+    let buffer = buffer(cursor)?;
+    let events = events(alloc, cursor)?;
+    let units = units(alloc, cursor)?;
     Ok(Program {
         vars,
         buffer,

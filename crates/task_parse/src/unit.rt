@@ -1,6 +1,6 @@
 //! Tasks and transactions.
 
-ghost use Rattle.std.specs.Prelude.{◌≡◌, ◌≢◌, ◌<◌, ◌≤◌, ◌∷◌, [], length, IfOk, OnOk};
+ghost use Rattle.std.specs.Prelude.{◌≢◌, ◌<◌, ◌∷◌, [], length, IfOk, OnOk};
 ghost use Rattle.task_lex.specs.declared.keyword.Keyword.TheVariants as keyword;
 ghost use Rattle.task_parse.specs.Grammar.{Form, Reads};
 ghost use Rattle.task_parse.specs.Machine.{Gives, Part, task_then, transaction_then};
@@ -16,74 +16,83 @@ use task_lex::{Keyword, Symbol};
 use task_syntax::{TaskDecl, TxDecl, UnitDecl};
 
 /// Reads one unit or more, up to the end of the tokens.
-pub(crate) fn units(alloc: Global, c: &mut Cursor<'_>) -> Result<Items<UnitDecl>, ParseFault>
-    ensures reads { IfOk result (λ units. Reads (Form.Units units) c.old.rest []) }
+pub(crate) fn units(alloc: Global, cursor: &mut Cursor<'_>) -> Result<Items<UnitDecl>, ParseFault>
+    ensures reads { IfOk result (λ units. Reads (Form.Units units) cursor.old.rest []) }
     ensures some { IfOk result (λ units. units ≢ []) }
-    ensures ends { Ends c.old (Part.AUnit ∷ Part.Units ∷ []) result }
+    ensures ends { Ends cursor.old (Part.AUnit ∷ Part.Units ∷ []) result }
 {
     let mut units = Items::new(alloc);
-    let first = unit(alloc, c)?;
+    let first = unit(alloc, cursor)?;
     units.push(first)?;
-    'more: while !c.is_at_end() {
-        let next = unit(alloc, c)?;
+    while !cursor.is_at_end() {
+        let next = unit(alloc, cursor)?;
         units.push(next)?;
     }
     Ok(units)
 }
 
-fn unit(alloc: Global, c: &mut Cursor<'_>) -> Result<UnitDecl, ParseFault>
-    ensures reads { IfOk result (λ unit. Reads (Form.OneUnit unit) c.old.rest c.new.rest) }
-    ensures gives { Gives c.old (Part.AUnit ∷ []) c.new (λ _. []) result }
-    ensures shrinks { OnOk result (length c.new.rest < length c.old.rest) }
+fn unit(alloc: Global, cursor: &mut Cursor<'_>) -> Result<UnitDecl, ParseFault>
+    ensures reads { IfOk result
+        (λ unit. Reads (Form.OneUnit unit) cursor.old.rest cursor.new.rest) }
+    ensures gives { Gives cursor.old (Part.AUnit ∷ []) cursor.new (λ _. []) result }
+    ensures shrinks { OnOk result (length cursor.new.rest < length cursor.old.rest) }
 {
-    if c.is_at_word(Keyword::Transaction) {
-        let tx = transaction(alloc, c)?;
+    if cursor.is_at_word(Keyword::Transaction) {
+        let tx = transaction(alloc, cursor)?;
         Ok(UnitDecl::Tx(tx))
     } else {
-        let lone = task(alloc, c)?;
+        let lone = task(alloc, cursor)?;
         Ok(UnitDecl::Lone(lone))
     }
 }
 
 /// `transaction name { task .. }`
-fn transaction(alloc: Global, c: &mut Cursor<'_>) -> Result<TxDecl, ParseFault>
-    ensures reads { IfOk result (λ tx. Reads (Form.OneUnit (unit.Tx tx)) c.old.rest c.new.rest) }
-    ensures gives { Gives c.old (Part.Word keyword.Transaction ∷ transaction_then []) c.new (λ _. []) result }
-    ensures shrinks { OnOk result (length c.new.rest < length c.old.rest) }
+fn transaction(alloc: Global, cursor: &mut Cursor<'_>) -> Result<TxDecl, ParseFault>
+    ensures reads { IfOk result
+        (λ tx. Reads (Form.OneUnit (unit.Tx tx)) cursor.old.rest cursor.new.rest) }
+    ensures gives { Gives cursor.old
+        (Part.Word keyword.Transaction ∷ transaction_then [])
+        cursor.new (λ _. []) result }
+    ensures shrinks { OnOk result (length cursor.new.rest < length cursor.old.rest) }
 {
-    c.word(Keyword::Transaction)?;
-    let name = c.name(alloc)?;
-    c.open(Symbol::OpenBrace)?;
-    let tasks = tasks(alloc, c)?;
-    c.close(Symbol::CloseBrace)?;
+    cursor.word(Keyword::Transaction)?;
+    let name = cursor.name(alloc)?;
+    cursor.open(Symbol::OpenBrace)?;
+    let tasks = tasks(alloc, cursor)?;
+    cursor.close(Symbol::CloseBrace)?;
     Ok(TxDecl { name, tasks })
 }
 
 /// Reads one task or more.
-fn tasks(alloc: Global, c: &mut Cursor<'_>) -> Result<Items<TaskDecl>, ParseFault>
-    ensures reads { IfOk result (λ tasks. Reads (Form.Tasks tasks) c.old.rest c.new.rest) }
+fn tasks(alloc: Global, cursor: &mut Cursor<'_>) -> Result<Items<TaskDecl>, ParseFault>
+    ensures reads { IfOk result
+        (λ tasks. Reads (Form.Tasks tasks) cursor.old.rest cursor.new.rest) }
     ensures some { IfOk result (λ tasks. tasks ≢ []) }
-    ensures gives { Gives c.old (Part.Word keyword.Task ∷ task_then (Part.Members ∷ [])) c.new (λ _. []) result }
-    ensures shrinks { OnOk result (length c.new.rest < length c.old.rest) }
+    ensures gives { Gives cursor.old
+        (Part.Word keyword.Task ∷ task_then (Part.Members ∷ []))
+        cursor.new (λ _. []) result }
+    ensures shrinks { OnOk result (length cursor.new.rest < length cursor.old.rest) }
 {
     let mut tasks = Items::new(alloc);
-    let first = task(alloc, c)?;
+    let first = task(alloc, cursor)?;
     tasks.push(first)?;
-    'more: while c.is_at_word(Keyword::Task) {
-        let next = task(alloc, c)?;
+    while cursor.is_at_word(Keyword::Task) {
+        let next = task(alloc, cursor)?;
         tasks.push(next)?;
     }
     Ok(tasks)
 }
 
 /// `task name { .. }`
-fn task(alloc: Global, c: &mut Cursor<'_>) -> Result<TaskDecl, ParseFault>
-    ensures reads { IfOk result (λ task. Reads (Form.Task task) c.old.rest c.new.rest) }
-    ensures gives { Gives c.old (Part.Word keyword.Task ∷ task_then []) c.new (λ _. []) result }
-    ensures shrinks { OnOk result (length c.new.rest < length c.old.rest) }
+fn task(alloc: Global, cursor: &mut Cursor<'_>) -> Result<TaskDecl, ParseFault>
+    ensures reads { IfOk result (λ task. Reads (Form.Task task) cursor.old.rest cursor.new.rest) }
+    ensures gives { Gives cursor.old
+        (Part.Word keyword.Task ∷ task_then [])
+        cursor.new (λ _. []) result }
+    ensures shrinks { OnOk result (length cursor.new.rest < length cursor.old.rest) }
 {
-    c.word(Keyword::Task)?;
-    let name = c.name(alloc)?;
-    let body = block(alloc, c)?;
+    cursor.word(Keyword::Task)?;
+    let name = cursor.name(alloc)?;
+    let body = block(alloc, cursor)?;
     Ok(TaskDecl { name, body })
 }

@@ -4,8 +4,8 @@ use Rattle.task_lex.specs.declared.symbol.Symbol.TheVariants as sign
 use Rattle.task_parse.specs.Grammar as G
 use Rattle.task_parse.specs.Grammar.{Form, Reads}
 use Rattle.task_parse.specs.Lexeme.{Lexeme}
-use Rattle.task_parse.specs.Machine.{Part, seen}
-use Rattle.task_parse.proofs.Expressions as E
+use Rattle.task_parse.specs.Machine.{seen}
+use Rattle.task_parse.proofs.Steps as S
 use Rattle.task_parse.proofs.Parts as P
 use Rattle.task_parse.proofs.declaration.init.Goals as goal
 
@@ -15,17 +15,23 @@ returns-then-not-is_at-clause-reads c = G.none_given
 pub returns-in_err-sign-clause-gives : goal.returns-in_err-sign-clause-gives
 returns-in_err-sign-clause-gives c =
     let p = err_from_is_err_and c.from_residual.result c.from_residual.ensures.1 in
-    rw (p.1, p.2) (λ k. ap (seen c.in_err-sign.field-0.0) (P.given_on c.args.c.now k (search rules)) ∙ c.in_err-sign.ensures.gives (Part.Init ∷ k))
+    rw (p.1, p.2) (λ k. ap (seen c.in_err-sign.field-0.0) (P.given_on c.args.cursor.now k (search rules))
+    ∙ c.in_err-sign.ensures.gives _)
 
 pub returns-in_err-values-clause-gives : goal.returns-in_err-values-clause-gives
 returns-in_err-values-clause-gives c =
     let p = err_from_is_err_and c.from_residual-in_err-values.result c.from_residual-in_err-values.ensures.1 in
-    rw (p.1, p.2) (λ k. ap (seen c.in_err-values.field-0.0) (P.given_on c.args.c.now k (search rules) ∙ c.in_ok-sign.ensures.gives (Part.Init ∷ k) ∙ P.many_on c.sign.new.self k (search rules)) ∙ c.in_err-values.ensures.gives k)
+    rw (p.1, p.2) (λ k. ap (seen c.in_err-values.field-0.0) (P.given_on c.args.cursor.now k (search rules)
+    ∙ c.in_ok-sign.ensures.gives _ ∙ P.many_on c.sign.new.self k (search rules))
+    ∙ c.in_err-values.ensures.gives k)
 
 pub returns-in_err-value-clause-gives : goal.returns-in_err-value-clause-gives
 returns-in_err-value-clause-gives c =
     let p = err_from_is_err_and c.from_residual-in_err-value.result c.from_residual-in_err-value.ensures.1 in
-    rw (p.1, p.2) (λ k. ap (seen c.in_err-value.field-0.0) (P.given_on c.args.c.now k (search rules) ∙ c.in_ok-sign.ensures.gives (Part.Init ∷ k) ∙ P.one_on c.sign.new.self k (search rules)) ∙ c.in_err-value.ensures.gives k)
+    rw (p.1, p.2) (λ k. ap (seen c.in_err-value.field-0.0) (P.given_on c.args.cursor.now k (search rules)
+    ∙ c.in_ok-sign.ensures.gives _ ∙ P.one_on c.sign.new.self k (search rules))
+    ∙ c.in_err-value.ensures.gives k)
 
 pub returns-clause-reads : goal.returns-clause-reads
-returns-clause-reads c = E.from (c.in_ok-sign.ensures.reads ∙ ap (λ w. Lexeme.sign sign.Assign ∷ w) c.in_ok-value.ensures.reads) G.one_given
+returns-clause-reads c = S.from (c.in_ok-sign.ensures.reads
+    ∙ ap (λ w. Lexeme.sign sign.Assign ∷ w) c.in_ok-value.ensures.reads) G.one_given

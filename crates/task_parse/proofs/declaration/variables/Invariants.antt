@@ -6,12 +6,15 @@ use Rattle.task_parse.specs.Lexeme.{Lexeme}
 use Rattle.task_parse.specs.Machine.{Part, judge, variable_then}
 use Rattle.task_parse.proofs.declaration.variables.Given as goal
 
-abbrev pub invariant-more : goal.invariant-more
-invariant-more l = record {
-  reads : (more : List Var) (rest : List Lexeme) → Reads (Form.Variables more) l.c.rest rest → Reads (Form.Variables (l.vars ++ more)) l.fn.c.rest rest;
+abbrev pub invariant-loop-alloc : goal.invariant-loop-alloc
+invariant-loop-alloc l = record {
+  reads : (more : List Var) (rest : List Lexeme) → Reads (Form.Variables more) l.cursor.rest rest
+      → Reads (Form.Variables (l.vars ++ more)) l.fn.cursor.rest rest;
   some : l.vars ≢ [];
-  gives : (k : List Part) → judge l.fn.c (Part.Word keyword.Nv ∷ variable_then (Part.Variables ∷ k)) ≡ judge l.c (Part.Variables ∷ k);
+  gives : (k : List Part)
+      → judge l.fn.cursor (Part.Word keyword.Nv ∷ variable_then (Part.Variables ∷ k)) ≡ judge l.cursor
+      (Part.Variables ∷ k);
 }
 
-abbrev pub decreases-more : goal.decreases-more
-decreases-more l = length l.c.rest
+abbrev pub decreases-loop-alloc : goal.decreases-loop-alloc
+decreases-loop-alloc l = length l.cursor.rest

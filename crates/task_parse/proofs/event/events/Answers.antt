@@ -2,20 +2,24 @@ use Rattle.std.proofs.Common.{rules, ◌∷◌, [], ap, ◌∙◌, subst, append
 use Rattle.std.proofs.lemmas.Result.{err_from_is_err_and}
 use Rattle.task_parse.specs.Grammar as G
 use Rattle.task_parse.specs.Grammar.{Form, Reads}
-use Rattle.task_parse.specs.Machine.{Part, seen}
+use Rattle.task_parse.specs.Machine.{seen}
 use Rattle.task_parse.proofs.Parts as P
 use Rattle.task_parse.proofs.event.events.Goals as goal
 
 pub returns-in_err-next-clause-gives : goal.returns-in_err-next-clause-gives
 returns-in_err-next-clause-gives c =
     let p = err_from_is_err_and c.from_residual.result c.from_residual.ensures.1 in
-    rw (p.1, p.2) (λ k. ap (seen c.in_err-next.field-0.0) (c.more.invariant.gives k ∙ P.events_on c.more.c k (search rules)) ∙ c.in_err-next.ensures.gives (Part.Events ∷ k))
+    rw (p.1, p.2) (λ k. ap (seen c.in_err-next.field-0.0) (c.loop-alloc.invariant.gives k
+    ∙ P.events_on c.loop-alloc.cursor k (search rules)) ∙ c.in_err-next.ensures.gives _)
 
-pub more-preserved : goal.more-preserved
-more-preserved c = record {
-  reads = λ more rest d. rw (c.in_ok-push.ensures.ok, append_assoc) (c.more.invariant.reads (c.in_ok-next.next ∷ more) rest (G.events c.in_ok-next.ensures.reads d));
-  gives = λ k. c.more.invariant.gives k ∙ P.events_on c.more.c k (search rules) ∙ c.in_ok-next.ensures.gives (Part.Events ∷ k);
+pub loop-alloc-preserved : goal.loop-alloc-preserved
+loop-alloc-preserved c = record {
+  reads = λ more rest d. rw (c.in_ok-push.ensures.ok, append_assoc) (c.loop-alloc.invariant.reads
+      (c.in_ok-next.next ∷ more) rest (G.events c.in_ok-next.ensures.reads d));
+  gives = λ k. c.loop-alloc.invariant.gives k ∙ P.events_on c.loop-alloc.cursor k (search rules)
+      ∙ c.in_ok-next.ensures.gives _;
 }
 
 pub returns-clause-reads : goal.returns-clause-reads
-returns-clause-reads c = subst (λ w. Reads (Form.Events w) c.args.c.now.rest c.more.c.rest) (append-nil c.more.events) (c.more.invariant.reads [] _ G.no_events)
+returns-clause-reads c = subst (λ w. Reads (Form.Events w) c.args.cursor.now.rest c.loop-alloc.cursor.rest)
+    (append-nil c.loop-alloc.events) (c.loop-alloc.invariant.reads [] _ G.no_events)

@@ -5,11 +5,12 @@ use Rattle.task_parse.specs.Lexeme.{Lexeme}
 use Rattle.task_parse.specs.Machine.{Part, judge}
 use Rattle.task_parse.proofs.event.events.Given as goal
 
-abbrev pub invariant-more : goal.invariant-more
-invariant-more l = record {
-  reads : (more : List Event) (rest : List Lexeme) → Reads (Form.Events more) l.c.rest rest → Reads (Form.Events (l.events ++ more)) l.fn.c.rest rest;
-  gives : (k : List Part) → judge l.fn.c (Part.Events ∷ k) ≡ judge l.c (Part.Events ∷ k);
+abbrev pub invariant-loop-alloc : goal.invariant-loop-alloc
+invariant-loop-alloc l = record {
+  reads : (more : List Event) (rest : List Lexeme) → Reads (Form.Events more) l.cursor.rest rest
+      → Reads (Form.Events (l.events ++ more)) l.fn.cursor.rest rest;
+  gives : (k : List Part) → judge l.fn.cursor (Part.Events ∷ k) ≡ judge l.cursor (Part.Events ∷ k);
 }
 
-abbrev pub decreases-more : goal.decreases-more
-decreases-more l = length l.c.rest
+abbrev pub decreases-loop-alloc : goal.decreases-loop-alloc
+decreases-loop-alloc l = length l.cursor.rest

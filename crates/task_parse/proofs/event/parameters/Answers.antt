@@ -4,8 +4,8 @@ use Rattle.task_lex.specs.declared.symbol.Symbol.TheVariants as sign
 use Rattle.task_parse.specs.Grammar as G
 use Rattle.task_parse.specs.Grammar.{Form, Reads}
 use Rattle.task_parse.specs.Lexeme.{Lexeme}
-use Rattle.task_parse.specs.Machine.{Part, seen}
-use Rattle.task_parse.proofs.Expressions as E
+use Rattle.task_parse.specs.Machine.{seen}
+use Rattle.task_parse.proofs.Steps as S
 use Rattle.task_parse.proofs.Parts as P
 use Rattle.task_parse.proofs.event.parameters.Goals as goal
 
@@ -15,31 +15,40 @@ returns-then-not-is_at_name-clause-reads c = rw c.new-params.ensures G.no_params
 pub returns-in_err-first-clause-gives : goal.returns-in_err-first-clause-gives
 returns-in_err-first-clause-gives c =
     let p = err_from_is_err_and c.from_residual.result c.from_residual.ensures.1 in
-    rw (p.1, p.2) (λ k. ap (seen c.in_err-first.field-0.0) (P.params_on c.args.c.now k (search rules)) ∙ c.in_err-first.ensures.gives (Part.Names ∷ k))
+    rw (p.1, p.2) (λ k. ap (seen c.in_err-first.field-0.0) (P.params_on c.args.cursor.now k (search rules))
+    ∙ c.in_err-first.ensures.gives _)
 
-pub more-init : goal.more-init
-more-init c = record {
-  reads = λ more rest d. rw (c.in_ok-push.ensures.ok, c.new-params.ensures) (E.from c.in_ok-first.ensures.reads (G.params d));
-  gives = λ k. P.params_on c.args.c.now k (search rules) ∙ c.in_ok-first.ensures.gives (Part.Names ∷ k);
+pub loop-alloc-init : goal.loop-alloc-init
+loop-alloc-init c = record {
+  reads = λ more rest d. rw (c.in_ok-push.ensures.ok, c.new-params.ensures) (S.from c.in_ok-first.ensures.reads
+      (G.params d));
+  gives = λ k. P.params_on c.args.cursor.now k (search rules) ∙ c.in_ok-first.ensures.gives _;
   shrinks = (let a = c.in_ok-first.ensures.shrinks in omega arith);
 }
 
 pub returns-in_err-sign-clause-gives : goal.returns-in_err-sign-clause-gives
 returns-in_err-sign-clause-gives c =
     let p = err_from_is_err_and c.from_residual-in_err-sign.result c.from_residual-in_err-sign.ensures.1 in
-    rw (p.1, p.2) (λ k. ap (seen c.in_err-sign.field-0.0) (c.more.invariant.gives k ∙ P.names_on c.more.c k (search rules)) ∙ c.in_err-sign.ensures.gives (Part.AName ∷ Part.Names ∷ k))
+    rw (p.1, p.2) (λ k. ap (seen c.in_err-sign.field-0.0) (c.loop-alloc.invariant.gives k
+    ∙ P.names_on c.loop-alloc.cursor k (search rules)) ∙ c.in_err-sign.ensures.gives _)
 
 pub returns-in_err-param-clause-gives : goal.returns-in_err-param-clause-gives
 returns-in_err-param-clause-gives c =
     let p = err_from_is_err_and c.from_residual-in_err-param.result c.from_residual-in_err-param.ensures.1 in
-    rw (p.1, p.2) (λ k. ap (seen c.in_err-param.field-0.0) (c.more.invariant.gives k ∙ P.names_on c.more.c k (search rules) ∙ c.in_ok-sign.ensures.gives (Part.AName ∷ Part.Names ∷ k)) ∙ c.in_err-param.ensures.gives (Part.Names ∷ k))
+    rw (p.1, p.2) (λ k. ap (seen c.in_err-param.field-0.0) (c.loop-alloc.invariant.gives k
+    ∙ P.names_on c.loop-alloc.cursor k (search rules) ∙ c.in_ok-sign.ensures.gives _)
+    ∙ c.in_err-param.ensures.gives _)
 
-pub more-preserved : goal.more-preserved
-more-preserved c = record {
-  reads = λ more rest d. rw (c.in_ok-push-2.ensures.ok, append_assoc) (c.more.invariant.reads (c.in_ok-param.param ∷ more) rest (E.from (c.in_ok-sign.ensures.reads ∙ ap (λ w. Lexeme.sign sign.Comma ∷ w) c.in_ok-param.ensures.reads) (G.names d)));
-  gives = λ k. c.more.invariant.gives k ∙ P.names_on c.more.c k (search rules) ∙ c.in_ok-sign.ensures.gives (Part.AName ∷ Part.Names ∷ k) ∙ c.in_ok-param.ensures.gives (Part.Names ∷ k);
+pub loop-alloc-preserved : goal.loop-alloc-preserved
+loop-alloc-preserved c = record {
+  reads = λ more rest d. rw (c.in_ok-push-2.ensures.ok, append_assoc) (c.loop-alloc.invariant.reads
+      (c.in_ok-param.param ∷ more) rest (S.from (c.in_ok-sign.ensures.reads
+      ∙ ap (λ w. Lexeme.sign sign.Comma ∷ w) c.in_ok-param.ensures.reads) (G.names d)));
+  gives = λ k. c.loop-alloc.invariant.gives k ∙ P.names_on c.loop-alloc.cursor k (search rules)
+      ∙ c.in_ok-sign.ensures.gives _ ∙ c.in_ok-param.ensures.gives _;
   shrinks = (let a = c.in_ok-sign.ensures.shrinks in let b = c.in_ok-param.ensures.shrinks in omega arith);
 }
 
 pub returns-clause-reads : goal.returns-clause-reads
-returns-clause-reads c = subst (λ w. Reads (Form.Params w) c.args.c.now.rest c.more.c.rest) (append-nil c.more.params) (c.more.invariant.reads [] _ G.no_names)
+returns-clause-reads c = subst (λ w. Reads (Form.Params w) c.args.cursor.now.rest c.loop-alloc.cursor.rest)
+    (append-nil c.loop-alloc.params) (c.loop-alloc.invariant.reads [] _ G.no_names)

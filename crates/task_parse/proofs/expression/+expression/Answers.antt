@@ -11,87 +11,120 @@ use Rattle.task_parse.proofs.Expressions as E
 use Rattle.task_parse.proofs.Steps as S
 use Rattle.task_parse.proofs.expression.+expression.Goals as goal
 
-pub level-climb-init : goal.level-climb-init
-level-climb-init t c = record {
+pub level-loop-op-init : goal.level-loop-op-init
+level-loop-op-init t c = record {
   few = c.requires.few;
   climbs = E.climbs_start _ _ _ _ c.in_ok-left.ensures.reads;
-  gives = λ k. c.in_ok-left.ensures.gives (Part.Ops c.args.operators ∷ k);
+  gives = λ k. c.in_ok-left.ensures.gives _;
   shrinks = c.in_ok-left.ensures.shrinks;
 }
 
 pub level-returns-in_err-right-clause-gives : goal.level-returns-in_err-right-clause-gives
 level-returns-in_err-right-clause-gives t c =
     let p = err_from_is_err_and c.from_residual-in_err-right.result c.from_residual-in_err-right.ensures.1 in
-    rw (p.1, p.2) (λ k. ap (seen c.in_err-right.field-0.0) (c.climb.invariant.gives k ∙ E.operator_on c.climb.c c.in-Some.op c.climb.count k c.in-Some.ensures.0 (grind (arith, nat_tests)) ∙ ap (λ w. judge w (Part.Operand ∷ Part.Ops (c.climb.count + 1) ∷ k)) (sym c.advance.ensures.moved)) ∙ c.in_err-right.ensures.gives k)
+    rw (p.1, p.2) (λ k. ap (seen c.in_err-right.field-0.0) (c.loop-op.invariant.gives k
+    ∙ E.operator_on c.loop-op.cursor c.in-Some.op c.loop-op.count k c.in-Some.ensures.0 (grind (arith, nat_tests))
+    ∙ ap (λ w. judge w (Part.Operand ∷ Part.Ops (c.loop-op.count + 1) ∷ k)) (sym c.advance.ensures.moved))
+    ∙ c.in_err-right.ensures.gives k)
 
-pub level-climb-preserved : goal.level-climb-preserved
-level-climb-preserved t c =
+pub level-loop-op-preserved : goal.level-loop-op-preserved
+level-loop-op-preserved t c =
     let o = c.in-Some.op in
     let behind = ap (λ (w : Spot). w.rest) c.advance.ensures.moved in
-    let right = E.from (sym behind) (subst (λ w. Reads (Form.Level (w + 1) c.in_ok-right.right) c.advance.new.self.rest c.level.new.c.rest) c.level_of.ensures.level c.in_ok-right.ensures.reads) in
+    let right = S.from (sym behind) (subst (λ w. Reads (Form.Level
+    (w + 1) c.in_ok-right.right) c.advance.new.self.rest c.level.new.cursor.rest) c.level_of.ensures.level c.in_ok-right.ensures.reads) in
     record {
       few = c.in_ok-right.ensures.few;
-      climbs = rw c.in_ok-left-2.ensures (E.climbs_on _ o _ _ _ _ _ c.climb.invariant.climbs c.in-Some.ensures.0 c.in-Some.ensures.1 right (subst (λ w. Below (w + 1) c.level.new.c.rest) c.level_of.ensures.level c.in_ok-right.ensures.below));
-      gives = λ k. c.climb.invariant.gives k ∙ E.operator_on c.climb.c o c.climb.count k c.in-Some.ensures.0 (grind (arith, nat_tests)) ∙ ap (λ w. judge w (Part.Operand ∷ Part.Ops (c.climb.count + 1) ∷ k)) (sym c.advance.ensures.moved) ∙ c.in_ok-right.ensures.gives k;
+      climbs = rw c.in_ok-left-2.ensures
+          (E.climbs_on _ o _ _ _ _ _ c.loop-op.invariant.climbs c.in-Some.ensures.0 c.in-Some.ensures.1 right (subst
+          (λ w. Below (w + 1) c.level.new.cursor.rest) c.level_of.ensures.level c.in_ok-right.ensures.below));
+      gives = λ k. c.loop-op.invariant.gives k
+          ∙ E.operator_on c.loop-op.cursor o c.loop-op.count k c.in-Some.ensures.0 (grind (arith, nat_tests))
+          ∙ ap (λ w. judge w (Part.Operand ∷ Part.Ops (c.loop-op.count + 1) ∷ k)) (sym c.advance.ensures.moved)
+          ∙ c.in_ok-right.ensures.gives k;
       shrinks = (let a = c.advance.ensures.shrinks in let b = c.in_ok-right.ensures.shrinks in omega arith);
     }
 
 pub level-returns-clause-reads : goal.level-returns-clause-reads
-level-returns-clause-reads t c = E.climbs_end _ _ _ _ c.climb.invariant.climbs
+level-returns-clause-reads t c = E.climbs_end _ _ _ _ c.loop-op.invariant.climbs
 
 pub operand-returns-in_err-operand-in-Some-clause-gives : goal.operand-returns-in_err-operand-in-Some-clause-gives
 operand-returns-in_err-operand-in-Some-clause-gives t c =
     let p = err_from_is_err_and c.from_residual.result c.from_residual.ensures.1 in
-    rw (p.1, p.2) (λ k. ap (seen c.in_err-operand-in-Some.field-0.0) (E.unary_on c.args.c.now c.in-Some.op k (search rules) ∙ ap (λ w. judge w (Part.Primary ∷ k)) (sym c.advance.ensures.moved)) ∙ c.in_err-operand-in-Some.ensures.gives k)
+    rw (p.1, p.2) (λ k. ap (seen c.in_err-operand-in-Some.field-0.0) (E.unary_on c.args.cursor.now c.in-Some.op k
+    (search rules) ∙ ap (λ w. judge w (Part.Primary ∷ k)) (sym c.advance.ensures.moved))
+    ∙ c.in_err-operand-in-Some.ensures.gives k)
 
 pub operand-returns-in_ok-one-in-Some-clause-reads : goal.operand-returns-in_ok-one-in-Some-clause-reads
-operand-returns-in_ok-one-in-Some-clause-reads t c = rw c.in_ok-one-in-Some.ensures (E.unary_reads _ _ _ _ (search rules) (E.from (sym (ap (λ (w : Spot). w.rest) c.advance.ensures.moved)) c.in_ok-operand-in-Some.ensures.reads))
+operand-returns-in_ok-one-in-Some-clause-reads t c = rw c.in_ok-one-in-Some.ensures (E.unary_reads _ _ _ _
+    (search rules) (S.from (sym (ap (λ
+    (w : Spot). w.rest) c.advance.ensures.moved)) c.in_ok-operand-in-Some.ensures.reads))
 
 pub operand-returns-in-None-clause-reads : goal.operand-returns-in-None-clause-reads
-operand-returns-in-None-clause-reads t c = S.also _ _ c.primary-in-None.result (λ x d. G.plain d) c.primary-in-None.ensures.reads
+operand-returns-in-None-clause-reads t c = S.also _ _ c.primary-in-None.result
+    (λ x d. G.plain d) c.primary-in-None.ensures.reads
 
 pub operand-returns-in-None-clause-gives : goal.operand-returns-in-None-clause-gives
-operand-returns-in-None-clause-gives t c = S.begun c.args.c.now c.args.c.now c.primary-in-None.new.c (Part.Operand ∷ []) (Part.Primary ∷ []) [] c.primary-in-None.result (λ k. E.as_primary c.args.c.now k (search rules)) c.primary-in-None.ensures.gives
+operand-returns-in-None-clause-gives t c =
+    S.begun c.args.cursor.now c.args.cursor.now c.primary-in-None.new.cursor (Part.Operand ∷ [])
+    (Part.Primary ∷ []) []
+    c.primary-in-None.result (λ k. E.as_primary c.args.cursor.now k (search rules)) c.primary-in-None.ensures.gives
 
 pub parentheses-returns-clause-reads : goal.parentheses-returns-clause-reads
-parentheses-returns-clause-reads t c = E.from c.in_ok-open.ensures.reads (G.parens (E.upto c.in_ok-close.ensures.reads c.in_ok-value.ensures.reads))
+parentheses-returns-clause-reads t c = S.from c.in_ok-open.ensures.reads (G.parens
+    (S.upto c.in_ok-close.ensures.reads c.in_ok-value.ensures.reads))
 
 pub place-returns-then-not-is_at-clause-reads : goal.place-returns-then-not-is_at-clause-reads
-place-returns-then-not-is_at-clause-reads t c = E.from c.in_ok-name.ensures.reads G.scalar
+place-returns-then-not-is_at-clause-reads t c = S.from c.in_ok-name.ensures.reads G.scalar
 
 pub place-returns-in_err-open-clause-gives : goal.place-returns-in_err-open-clause-gives
 place-returns-in_err-open-clause-gives t c =
     let p = err_from_is_err_and c.from_residual-in_err-open.result c.from_residual-in_err-open.ensures.1 in
-    rw (p.1, p.2) (λ k. ap (seen c.in_err-open.field-0.0) (c.in_ok-name.ensures.gives (Part.Index ∷ k) ∙ E.index_on c.name.new.self k (search rules)) ∙ c.in_err-open.ensures.gives (Part.Operand ∷ Part.Ops 0 ∷ Part.Sign sign.CloseBracket ∷ k))
+    rw (p.1, p.2) (λ k. ap (seen c.in_err-open.field-0.0) (c.in_ok-name.ensures.gives _
+    ∙ E.index_on c.name.new.self k (search rules))
+    ∙ c.in_err-open.ensures.gives _)
 
 pub place-returns-in_err-index-clause-gives : goal.place-returns-in_err-index-clause-gives
 place-returns-in_err-index-clause-gives t c =
     let p = err_from_is_err_and c.from_residual-in_err-index.result c.from_residual-in_err-index.ensures.1 in
-    rw (p.1, p.2) (λ k. ap (seen c.in_err-index.field-0.0) (c.in_ok-name.ensures.gives (Part.Index ∷ k) ∙ E.index_on c.name.new.self k (search rules) ∙ c.in_ok-open.ensures.gives (Part.Operand ∷ Part.Ops 0 ∷ Part.Sign sign.CloseBracket ∷ k)) ∙ c.in_err-index.ensures.gives (Part.Sign sign.CloseBracket ∷ k))
+    rw (p.1, p.2) (λ k. ap (seen c.in_err-index.field-0.0) (c.in_ok-name.ensures.gives _
+    ∙ E.index_on c.name.new.self k (search rules)
+    ∙ c.in_ok-open.ensures.gives _)
+    ∙ c.in_err-index.ensures.gives _)
 
 pub place-returns-in_err-close-clause-gives : goal.place-returns-in_err-close-clause-gives
 place-returns-in_err-close-clause-gives t c =
     let p = err_from_is_err_and c.from_residual-in_err-close.result c.from_residual-in_err-close.ensures.1 in
-    rw (p.1, p.2) (λ k. ap (seen c.in_err-close.field-0.0) (c.in_ok-name.ensures.gives (Part.Index ∷ k) ∙ E.index_on c.name.new.self k (search rules) ∙ c.in_ok-open.ensures.gives (Part.Operand ∷ Part.Ops 0 ∷ Part.Sign sign.CloseBracket ∷ k) ∙ c.in_ok-index.ensures.gives (Part.Sign sign.CloseBracket ∷ k)) ∙ c.in_err-close.ensures.gives k)
+    rw (p.1, p.2) (λ k. ap (seen c.in_err-close.field-0.0) (c.in_ok-name.ensures.gives _
+    ∙ E.index_on c.name.new.self k (search rules)
+    ∙ c.in_ok-open.ensures.gives _
+    ∙ c.in_ok-index.ensures.gives _) ∙ c.in_err-close.ensures.gives k)
 
 pub place-returns-clause-reads : goal.place-returns-clause-reads
-place-returns-clause-reads t c = rw c.in_ok-index-2.ensures (E.from (c.in_ok-name.ensures.reads ∙ ap (λ w. Lexeme.name c.in_ok-name.name ∷ w) c.in_ok-open.ensures.reads) (G.item (E.upto c.in_ok-close.ensures.reads c.in_ok-index.ensures.reads)))
+place-returns-clause-reads t c = rw c.in_ok-index-2.ensures (S.from (c.in_ok-name.ensures.reads
+    ∙ ap (λ w. Lexeme.name c.in_ok-name.name ∷ w) c.in_ok-open.ensures.reads) (G.item
+    (S.upto c.in_ok-close.ensures.reads c.in_ok-index.ensures.reads)))
 
 pub primary-returns-in_err-place-clause-gives : goal.primary-returns-in_err-place-clause-gives
 primary-returns-in_err-place-clause-gives t c =
     let p = err_from_is_err_and c.from_residual.result c.from_residual.ensures.1 in
-    rw (p.1, p.2) (λ k. ap (seen c.in_err-place.field-0.0) (E.place_on c.args.c.now k (search rules)) ∙ c.in_err-place.ensures.gives k)
+    rw (p.1, p.2) (λ k. ap (seen c.in_err-place.field-0.0) (E.place_on c.args.cursor.now k (search rules))
+    ∙ c.in_err-place.ensures.gives k)
 
 pub primary-returns-in_err-number-clause-gives : goal.primary-returns-in_err-number-clause-gives
 primary-returns-in_err-number-clause-gives t c =
     let p = err_from_is_err_and c.from_residual-in_err-number.result c.from_residual-in_err-number.ensures.1 in
-    rw (p.1, p.2) (λ k. ap (seen c.in_err-number.field-0.0) (E.number_on c.args.c.now k (search rules) (search rules)) ∙ c.in_err-number.ensures.gives k)
+    rw (p.1, p.2) (λ k. ap (seen c.in_err-number.field-0.0) (E.number_on c.args.cursor.now k (search rules)
+    (search rules)) ∙ c.in_err-number.ensures.gives k)
 
 pub primary-returns-in_ok-place-clause-reads : goal.primary-returns-in_ok-place-clause-reads
 primary-returns-in_ok-place-clause-reads t c = G.get c.in_ok-place.ensures.reads
 
 pub primary-returns-then-is_at-clause-gives : goal.primary-returns-then-is_at-clause-gives
-primary-returns-then-is_at-clause-gives t c = S.begun c.args.c.now c.args.c.now c.parentheses.new.c (Part.Primary ∷ []) (Part.Sign sign.OpenParen ∷ Part.Operand ∷ Part.Ops 0 ∷ Part.Sign sign.CloseParen ∷ []) [] c.parentheses.result (λ k. E.parentheses_on c.args.c.now k (search rules)) c.parentheses.ensures.gives
+primary-returns-then-is_at-clause-gives t c =
+    S.begun c.args.cursor.now c.args.cursor.now c.parentheses.new.cursor (Part.Primary ∷ [])
+    (Part.Sign sign.OpenParen ∷ Part.Operand ∷ Part.Ops 0 ∷ Part.Sign sign.CloseParen ∷ []) []
+    c.parentheses.result (λ k. E.parentheses_on c.args.cursor.now k (search rules)) c.parentheses.ensures.gives
 
 pub primary-returns-in_ok-number-clause-reads : goal.primary-returns-in_ok-number-clause-reads
-primary-returns-in_ok-number-clause-reads t c = E.from c.in_ok-number.ensures.reads G.number
+primary-returns-in_ok-number-clause-reads t c = S.from c.in_ok-number.ensures.reads G.number

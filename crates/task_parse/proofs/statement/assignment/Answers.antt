@@ -1,7 +1,8 @@
 use Rattle.task_parse.specs.Grammar as G
 use Rattle.task_parse.specs.Grammar.{Form, Reads}
-use Rattle.task_parse.proofs.Expressions as E
+use Rattle.task_parse.proofs.Steps as S
 use Rattle.task_parse.proofs.statement.assignment.Goals as goal
 
 pub returns-clause-reads : goal.returns-clause-reads
-returns-clause-reads c = G.assign (E.upto c.in_ok-sign.ensures.reads c.in_ok-place.ensures.reads) (E.upto c.in_ok-sign-2.ensures.reads c.in_ok-value.ensures.reads)
+returns-clause-reads c = G.assign (S.upto c.in_ok-sign.ensures.reads c.in_ok-place.ensures.reads)
+    (S.upto c.in_ok-sign-2.ensures.reads c.in_ok-value.ensures.reads)

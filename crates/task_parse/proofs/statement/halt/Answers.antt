@@ -3,8 +3,9 @@ use Rattle.task_lex.specs.declared.keyword.Keyword.TheVariants as keyword
 use Rattle.task_parse.specs.Grammar as G
 use Rattle.task_parse.specs.Grammar.{Form, Reads}
 use Rattle.task_parse.specs.Lexeme.{Lexeme}
-use Rattle.task_parse.proofs.Expressions as E
+use Rattle.task_parse.proofs.Steps as S
 use Rattle.task_parse.proofs.statement.halt.Goals as goal
 
 pub returns-clause-reads : goal.returns-clause-reads
-returns-clause-reads c = E.from (c.in_ok-at.ensures.reads ∙ ap (λ w. Lexeme.word keyword.Halt c.in_ok-at.at ∷ w) c.in_ok-sign.ensures.reads) G.halt
+returns-clause-reads c = S.from (c.in_ok-at.ensures.reads
+    ∙ ap (λ w. Lexeme.word keyword.Halt c.in_ok-at.at ∷ w) c.in_ok-sign.ensures.reads) G.halt

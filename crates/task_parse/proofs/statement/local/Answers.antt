@@ -3,8 +3,11 @@ use Rattle.task_lex.specs.declared.keyword.Keyword.TheVariants as keyword
 use Rattle.task_parse.specs.Grammar as G
 use Rattle.task_parse.specs.Grammar.{Form, Reads}
 use Rattle.task_parse.specs.Lexeme.{Lexeme}
-use Rattle.task_parse.proofs.Expressions as E
+use Rattle.task_parse.proofs.Steps as S
 use Rattle.task_parse.proofs.statement.local.Goals as goal
 
 pub returns-clause-reads : goal.returns-clause-reads
-returns-clause-reads c = E.from (c.in_ok-word.ensures.reads ∙ ap (λ w. Lexeme.word keyword.Let c.in_ok-word.field-0 ∷ w) (c.in_ok-name.ensures.reads ∙ ap (λ w. Lexeme.name c.in_ok-name.name ∷ w) c.in_ok-sign.ensures.reads)) (G.declare (E.upto c.in_ok-sign-2.ensures.reads c.in_ok-value.ensures.reads))
+returns-clause-reads c = S.from (c.in_ok-word.ensures.reads
+    ∙ ap (λ w. Lexeme.word keyword.Let c.in_ok-word.field-0 ∷ w) (c.in_ok-name.ensures.reads
+    ∙ ap (λ w. Lexeme.name c.in_ok-name.name ∷ w) c.in_ok-sign.ensures.reads)) (G.declare
+    (S.upto c.in_ok-sign-2.ensures.reads c.in_ok-value.ensures.reads))

@@ -5,12 +5,13 @@ use Rattle.task_parse.specs.Lexeme.{Lexeme}
 use Rattle.task_parse.specs.Machine.{Part, judge}
 use Rattle.task_parse.proofs.unit.units.Given as goal
 
-abbrev pub invariant-more : goal.invariant-more
-invariant-more l = record {
-  reads : (more : List UnitDecl) (rest : List Lexeme) → Reads (Form.Units more) l.c.rest rest → Reads (Form.Units (l.units ++ more)) l.fn.c.rest rest;
+abbrev pub invariant-loop-alloc : goal.invariant-loop-alloc
+invariant-loop-alloc l = record {
+  reads : (more : List UnitDecl) (rest : List Lexeme) → Reads (Form.Units more) l.cursor.rest rest
+      → Reads (Form.Units (l.units ++ more)) l.fn.cursor.rest rest;
   some : l.units ≢ [];
-  ends : judge l.fn.c (Part.AUnit ∷ Part.Units ∷ []) ≡ judge l.c (Part.Units ∷ []);
+  ends : judge l.fn.cursor (Part.AUnit ∷ Part.Units ∷ []) ≡ judge l.cursor (Part.Units ∷ []);
 }
 
-abbrev pub decreases-more : goal.decreases-more
-decreases-more l = length l.c.rest
+abbrev pub decreases-loop-alloc : goal.decreases-loop-alloc
+decreases-loop-alloc l = length l.cursor.rest

@@ -1,3 +1,5 @@
+mod rules;
+
 use coati_io::{MemSink, MemSource};
 use coati_top::{Status, coati_still};
 use std::alloc::Global;

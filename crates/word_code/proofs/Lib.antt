@@ -1,0 +1,4 @@
+pub mod Following
+pub mod Pieces
+pub mod Running
+pub mod Words

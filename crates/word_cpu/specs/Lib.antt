@@ -1,0 +1,4 @@
+pub mod Example
+pub mod Noted
+pub mod OnCourse
+pub mod Turning

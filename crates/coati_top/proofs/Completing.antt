@@ -14,7 +14,7 @@ use Rattle.task_parse.specs.Lexeme.{Lexeme}
 use Rattle.coati_board.specs.Board.{Whole}
 use Rattle.coati_board.specs.FirstForm.{IsFirstForm}
 use Rattle.coati_top.specs.declared.command.Command.{Command}
-use Rattle.coati_top.specs.declared.command.Command.TheVariants.{Check, Run}
+use Rattle.coati_top.specs.declared.command.Command.TheVariants.{Check, Dump, Run}
 use Rattle.coati_top.specs.declared.source_fault.SourceFault.{SourceFault}
 use Rattle.coati_top.specs.declared.source_fault.SourceFault.TheVariants as source_fault
 use Rattle.task_check.specs.Accepted.{IsAccepted, IsRefusal}
@@ -25,7 +25,7 @@ use Rattle.coati_top.specs.declared.refusal.Refusal.TheVariants.{Source, Later}
 use Rattle.coati_top.specs.declared.status.Status.{Status}
 use Rattle.coati_top.specs.declared.status.Status.TheVariants.{Ok, Usage, ReadFault, WriteFault, TooLarge, Refused, BadTrace, Differs, OutOfMemory}
 use Rattle.coati_top.specs.Answer.{Answers, AsksForNoRun, IsRefused}
-use Rattle.coati_top.specs.Answer.Answers.{refused, measured, ran}
+use Rattle.coati_top.specs.Answer.Answers.{refused, measured, listed, ran}
 use Rattle.coati_top.specs.Call.{InputEdge, OutputEdge, Explains, input_limit}
 use Rattle.coati_top.specs.Complete.{IsUndisturbed, IsServed, Succeeds}
 use Rattle.coati_top.specs.Divided.{second_part, source_part}
@@ -89,6 +89,8 @@ module _ (one : HasOneAnswer) (bytes : List ℕ) (program : Program) (has : HasP
 no_refusal : HasOneAnswer → (command : Command) (bytes : List ℕ) → IsServed command bytes → (refusal : Refusal) → IsRefused command bytes refusal → ⊥
 no_refusal one Check bytes served (Source fault) cause = no_fault one bytes served.program served.source.source served.source.accepted fault cause
 no_refusal one Check bytes served Later cause = cause
+no_refusal one Dump bytes served (Source fault) cause = no_fault one bytes served.program served.source.source served.source.accepted fault cause
+no_refusal one Dump bytes served Later cause = cause
 no_refusal one (Run mode) bytes served (Source fault) cause =
     no_fault one bytes served.program served.asked.source.source served.asked.source.accepted fault cause
 no_refusal one (Run mode) bytes served Later cause =
@@ -97,6 +99,7 @@ no_refusal one (Run mode) bytes served Later cause =
 no_answer : HasOneAnswer → (command : Command) (bytes : List ℕ) → IsServed command bytes → (text : List ℕ) (board : Option Whole) → Answers command bytes Refused text board → ⊥
 no_answer one command bytes served text board (refused refusal cause is text_is none) = no_refusal one command bytes served refusal cause
 no_answer one command bytes served text board (measured program by source is text_is none) = absurd cc
+no_answer one command bytes served text board (listed program by source is text_is none) = absurd cc
 no_answer one command bytes served text board (ran mode run by made is text_is some) = absurd cc
 
 -- the status of an undisturbed call on an input that is served, by cases

@@ -1,4 +1,5 @@
--- What a command answers to an input: the refusal of a source, the measures of its program, or the run of it.
+-- What a command answers to an input: the refusal of a source, the measures or the listing of its
+-- program, or the run of it.
 use Rattle.std.specs.Prelude.{◌≡◌, ℕ, List, Option, Some, None}
 use Rattle.coati_word.specs.declared.mode.Mode.{Mode}
 use Rattle.task_syntax.specs.declared.program.Program.{Program}
@@ -6,8 +7,9 @@ use Rattle.coati_board.specs.Board.{Whole}
 use Rattle.coati_board.specs.FirstForm.{IsFirstForm}
 use Rattle.coati_board.specs.SerialRun.{SerialRun}
 use Rattle.coati_board.specs.Sound.{StandsFor}
+use Rattle.codegen.specs.Listing.{listing}
 use Rattle.coati_top.specs.declared.command.Command.{Command}
-use Rattle.coati_top.specs.declared.command.Command.TheVariants.{Check, Run}
+use Rattle.coati_top.specs.declared.command.Command.TheVariants.{Check, Dump, Run}
 use Rattle.coati_top.specs.declared.refusal.Refusal.{Refusal}
 use Rattle.coati_top.specs.declared.refusal.Refusal.TheVariants.{Source, Later}
 use Rattle.coati_top.specs.declared.status.Status.{Status}
@@ -37,6 +39,7 @@ pub record AsksForNoRun (input : List ℕ) : Type 0 where
 abbrev pub IsRefused : Command → List ℕ → Refusal → Type 0
 IsRefused command input (Source fault) = IsSourceFault input fault
 IsRefused Check input Later = ⊥
+IsRefused Dump input Later = ⊥
 IsRefused (Run mode) input Later = AsksForNoRun input
 
 -- the board of a run that the input asks for: it has ended, its history is a serial run of the program, and what its
@@ -53,5 +56,7 @@ pub data Answers (command : Command) (input : List ℕ) (status : Status) (text 
       → status ≡ Refused → text ≡ refusal_text refusal → board ≡ None → Answers command input status text board
   measured : (program : Program) → command ≡ Check → HasAccepted input program
       → status ≡ Ok → text ≡ check_text program → board ≡ None → Answers command input status text board
+  listed : (program : Program) → command ≡ Dump → HasAccepted input program
+      → status ≡ Ok → text ≡ listing program → board ≡ None → Answers command input status text board
   ran : (mode : Mode) (run : Whole) → command ≡ Run mode → IsRunOf input run
       → status ≡ Ok → text ≡ board_text run → board ≡ Some run → Answers command input status text board

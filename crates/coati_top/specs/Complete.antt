@@ -4,7 +4,7 @@ use Rattle.task_syntax.specs.declared.program.Program.{Program}
 use Rattle.coati_top.specs.Answer.{AsksFor}
 use Rattle.coati_top.specs.Call.{InputEdge, OutputEdge, ReadingFailed, WritingFailed, input_limit}
 use Rattle.coati_top.specs.declared.command.Command.{Command}
-use Rattle.coati_top.specs.declared.command.Command.TheVariants.{Check, Run}
+use Rattle.coati_top.specs.declared.command.Command.TheVariants.{Check, Dump, Run}
 use Rattle.coati_top.specs.Source.{HasAccepted}
 use Rattle.coati_top.specs.declared.status.Status.{Status}
 use Rattle.coati_top.specs.declared.status.Status.TheVariants.{Ok, ReadFault, OutOfMemory}
@@ -30,6 +30,7 @@ pub record IsRunnable (bytes : List ℕ) : Type 0 where
 -- the command serves an input of these bytes
 abbrev pub IsServed : Command → List ℕ → Type 0
 IsServed Check bytes = IsMeasurable bytes
+IsServed Dump bytes = IsMeasurable bytes
 IsServed (Run mode) bytes = IsRunnable bytes
 
 -- the call succeeds, unless memory ran out

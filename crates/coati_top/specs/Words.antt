@@ -2,7 +2,7 @@
 use Rattle.std.specs.Prelude.{ℕ, List, [], ◌∷◌, Option, Some, None, codes, bytes_eq, if◌then◌else◌}
 use Rattle.coati_word.specs.declared.mode.Mode.TheVariants.{Split}
 use Rattle.coati_top.specs.declared.command.Command.{Command}
-use Rattle.coati_top.specs.declared.command.Command.TheVariants.{Check, Run}
+use Rattle.coati_top.specs.declared.command.Command.TheVariants.{Check, Dump, Run}
 
 -- the command that two words are
 abbrev pub command_of_two : List ℕ → List ℕ → Option Command
@@ -12,6 +12,7 @@ command_of_two command mode =
 -- the command that the words are, if they are one
 abbrev pub command_of : List (List ℕ) → Option Command
 command_of [] = None
-command_of (command ∷ []) = if bytes_eq command (codes "check") then Some Check else None
+command_of (command ∷ []) =
+    if bytes_eq command (codes "check") then Some Check else (if bytes_eq command (codes "dump") then Some Dump else None)
 command_of (command ∷ mode ∷ []) = command_of_two command mode
 command_of (command ∷ mode ∷ other ∷ more) = None

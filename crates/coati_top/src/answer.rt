@@ -13,6 +13,7 @@ use crate::source::read_source;
 use crate::source_fault::NoProgram;
 use crate::{Command, Status};
 use coati_board::Board;
+use codegen::{compile, listing};
 use coati_word::{Mode, OutOfMemory};
 use std::alloc::Global;
 use task_check::Checked;
@@ -50,6 +51,7 @@ fn answer_about(
 {
     match command {
         Command::Check => measured(alloc, input, &checked),
+        Command::Dump => listed(alloc, input, &checked),
         Command::Run(mode) => run(alloc, mode, input, checked),
     }
 }
@@ -78,6 +80,20 @@ fn measured(alloc: Global, input: &[u8], checked: &Checked) -> Result<Reply, Out
     ensures { IfOk result (λ reply. Answers Command.Check input.now reply.status reply.text.items reply.board) }
 {
     let text = check_text(alloc, checked)?;
+    Ok(Reply {
+        status: Status::Ok,
+        text,
+        board: None,
+    })
+}
+
+/// What `dump` answers to an accepted program.
+fn listed(alloc: Global, input: &[u8], checked: &Checked) -> Result<Reply, OutOfMemory>
+    requires { HasAccepted input.now checked.now }
+    ensures { IfOk result (λ reply. Answers Command.Dump input.now reply.status reply.text.items reply.board) }
+{
+    let code = compile(alloc, checked)?;
+    let text = listing(alloc, checked, &code)?;
     Ok(Reply {
         status: Status::Ok,
         text,

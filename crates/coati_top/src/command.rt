@@ -8,6 +8,8 @@ use coati_word::Mode;
 pub enum Command {
     /// Tell what the source of the input costs, or why it is refused.
     Check,
+    /// List the code of the input's source.
+    Dump,
     /// Run the source of the input, with the events in this mode.
     Run(Mode),
 }
@@ -18,6 +20,7 @@ pub fn command_of(words: &[String]) -> Option<Command>
 {
     match words {
         [command] if command.as_str() == "check" => Some(Command::Check),
+        [command] if command.as_str() == "dump" => Some(Command::Dump),
         [command, mode] if command.as_str() == "run" && mode.as_str() == "split" => {
             Some(Command::Run(Mode::Split))
         }

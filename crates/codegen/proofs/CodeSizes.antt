@@ -1,0 +1,58 @@
+-- Numbers of words that the code of each part has, wherever it stands.
+use Rattle.std.proofs.Common.{◌≡◌, ℕ, ◌≤◌, ◌<◌, List, [], ◌∷◌, length, map, arith, append_assoc}
+use Rattle.task_syntax.specs.declared.program.Program.{Program}
+use Rattle.task_syntax.specs.declared.expression.Expr.{Expr}
+use Rattle.task_syntax.specs.declared.expression.Place.{Place}
+use Rattle.task_syntax.specs.declared.expression.Expr as E
+use Rattle.task_syntax.specs.declared.expression.Place as P
+use Rattle.task_syntax.specs.declared.statement.Stmt.{Stmt}
+use Rattle.task_syntax.specs.CodeWords.{access_words, access_words_step, expression_words, expression_words_step, expressions_words, statement_words, statements_words}
+use Rattle.codegen.specs.Code.{size}
+use Rattle.codegen.specs.Scope.{Local, Scope}
+use Rattle.codegen.specs.Templates.{expression_code, statement_code, statements_code}
+use Rattle.codegen.proofs.Fitting.{sum-cons}
+use Rattle.codegen.proofs.Sizes.{expression_size, statement_size, statements_size}
+use Rattle.codegen.proofs.Trees.{ExpressionCases, every_expression}
+
+pub size-expression_code : (program : Program) (e : Expr) (locals : List Local) → size (expression_code program e locals) ≡ expression_words e
+size-expression_code program e locals = expression_size program e locals
+
+pub size-statement_code : (program : Program) (s : Stmt) (scope : Scope) (at : ℕ) → size ((statement_code program s scope).code at) ≡ statement_words s
+size-statement_code program s scope at = statement_size program s scope at
+
+pub size-statements_code : (program : Program) (block : List Stmt) (scope : Scope) (at : ℕ) → size ((statements_code program block scope).code at) ≡ statements_words block
+size-statements_code program block scope at = statements_size program block scope at
+
+pub ruleset emitting = (append_assoc, size-expression_code, size-statement_code, size-statements_code)
+
+-- an expression has a word at least
+record IsLong (e : Expr) : Type 0 where
+  by : 0 < expression_words e
+
+record IsLongPlace (place : Place) : Type 0 where
+  by : 0 < access_words place
+
+layer : (x : E.Expr-F Expr Place) → expression_words (E.roll-Expr x) ≡ expression_words_step (E.map-Expr Expr Place ℕ ℕ expression_words access_words x)
+layer x = E.fold-roll-Expr ℕ ℕ expression_words_step access_words_step x
+
+place_layer : (x : P.Place-F Expr Place) → access_words (P.roll-Place x) ≡ access_words_step (P.map-Place Expr Place ℕ ℕ expression_words access_words x)
+place_layer x = P.fold-roll-Place ℕ ℕ expression_words_step access_words_step x
+
+long_cases : ExpressionCases IsLong IsLongPlace
+long_cases = record {
+  num = λ value. record { by = rw (layer (E.Expr-F.Num value)) (omega arith) };
+  get = λ place long. record { by = rw (layer (E.Expr-F.Get place)) long.by };
+  one = λ op operand long. record { by = rw (layer (E.Expr-F.One op operand)) (omega arith) };
+  two = λ op left right one other. record { by = rw (layer (E.Expr-F.Two op left right)) (omega arith) };
+  plain = λ name. record { by = rw (place_layer (P.Place-F.Plain name)) (omega arith) };
+  item = λ name index long. record { by = rw (place_layer (P.Place-F.Item name index)) (omega arith) };
+}
+
+-- there are no more expressions than words of them
+pub count-expressions : (es : List Expr) → length es ≤ expressions_words es
+count-expressions [] = omega arith
+count-expressions (e ∷ es) =
+    let long = (every_expression IsLong IsLongPlace long_cases e).by in
+    omega (arith, long, count-expressions es, sum-cons (expression_words e) (map expression_words es))
+
+pub ruleset few_expressions = (count-expressions)

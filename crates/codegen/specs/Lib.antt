@@ -1,0 +1,9 @@
+pub mod Bodies
+pub mod Code
+pub mod CodeLaws
+pub mod Compiling
+pub mod Fit
+pub mod Listing
+pub mod Located
+pub mod Scope
+pub mod Templates

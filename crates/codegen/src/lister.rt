@@ -1,0 +1,118 @@
+ghost use Rattle.std.specs.Prelude.{◌≡◌, ◌+◌, ◌<◌, ◌≤◌, ◌++◌, IfOk, OnOk, IsSome, Some, flat_map, length, slice_get};
+ghost use Rattle.task_syntax.specs.Names.{tasks, tasks_of_unit};
+ghost use Rattle.codegen.specs.Bodies.{Body, body_of, program_code, words_of_body};
+ghost use Rattle.codegen.specs.Listing.{body_lines, event_lines, listing, task_lines};
+
+use crate::compiler::tasks_of;
+use crate::laws::{accepted_bodies_fit, bodies_stand_by_number};
+use crate::line::{put, put_field, put_lines};
+use coati_word::OutOfMemory;
+use std::alloc::Global;
+use task_check::Checked;
+use task_syntax::{BodyId, Event, Name, TaskDecl, UnitDecl};
+use word_code::Code;
+
+/// The listing of a program's code: for each body a line with its kind and its name, and then a line for each instruction.
+pub fn listing(alloc: Global, checked: &Checked, code: &Code) -> Result<Vec<u8>, OutOfMemory>
+    requires { code.now ≡ program_code checked.now }
+    ensures { IfOk result (λ text. text.items ≡ listing checked.now) }
+{
+    let mut out = Vec::new(alloc);
+    put_tasks(&mut out, checked, code)?;
+    put_events(&mut out, checked, code)?;
+    Ok(out)
+}
+
+fn put_tasks(out: &mut Vec<u8>, checked: &Checked, code: &Code) -> Result<(), OutOfMemory>
+    requires { code.now ≡ program_code checked.now }
+    ensures { OnOk result (out.new.items ≡ out.old.items ++ flat_map (task_lines checked.now) (tasks checked.now)) }
+{
+    let units = checked.program().units.as_slice();
+    for number in 0..checked.tasks() {
+        put_task(out, checked, code, number, task_at(units, number))?;
+    }
+    Ok(())
+}
+
+/// The task of a number.
+fn task_at(units: &[UnitDecl], number: u16) -> &TaskDecl
+    requires { number < length (flat_map tasks_of_unit units.now) }
+    ensures { slice_get (flat_map tasks_of_unit units.now) number ≡ Some result.now }
+{
+    let mut left = usize::from(number);
+    for unit in units {
+        let tasks = tasks_of(unit);
+        if left < tasks.len() {
+            return &tasks[left];
+        }
+        left -= tasks.len();
+    }
+    unreachable!()
+}
+
+fn put_task(
+    out: &mut Vec<u8>,
+    checked: &Checked,
+    code: &Code,
+    number: u16,
+    task: &TaskDecl,
+) -> Result<(), OutOfMemory>
+    requires code { code.now ≡ program_code checked.now }
+    requires task { slice_get (tasks checked.now) number ≡ Some task.now }
+    ensures { OnOk result (out.new.items ≡ out.old.items ++ task_lines checked.now task.now) }
+{
+    let words = words_of(checked, code, BodyId::Task(number));
+    put_body(out, b"task", &task.name, words)
+}
+
+fn put_events(out: &mut Vec<u8>, checked: &Checked, code: &Code) -> Result<(), OutOfMemory>
+    requires { code.now ≡ program_code checked.now }
+    ensures { OnOk result (out.new.items ≡ out.old.items ++ flat_map (event_lines checked.now) checked.now.events) }
+{
+    let events = checked.program().events.as_slice();
+    for number in 0..checked.events() {
+        let event = &events[usize::from(number)];
+        put_event(out, checked, code, number, event)?;
+    }
+    Ok(())
+}
+
+fn put_event(
+    out: &mut Vec<u8>,
+    checked: &Checked,
+    code: &Code,
+    number: u16,
+    event: &Event,
+) -> Result<(), OutOfMemory>
+    requires code { code.now ≡ program_code checked.now }
+    requires event { slice_get checked.now.events number ≡ Some event.now }
+    ensures { OnOk result (out.new.items ≡ out.old.items ++ event_lines checked.now event.now) }
+{
+    let top = words_of(checked, code, BodyId::Top(number));
+    put_body(out, b"top", &event.name, top)?;
+    let bottom = words_of(checked, code, BodyId::Bottom(number));
+    put_body(out, b"bottom", &event.name, bottom)
+}
+
+/// The words of a body of the program.
+fn words_of<'a>(checked: &Checked, code: &'a Code, number: BodyId) -> &'a [u16]
+    requires code { code.now ≡ program_code checked.now }
+    requires body { IsSome (body_of checked.now number) }
+    ensures words { (body : Body) → body_of checked.now number ≡ Some body → result.now ≡ words_of_body checked.now body }
+    ensures few { length result.now ≤ 50000 }
+{
+    accepted_bodies_fit();
+    bodies_stand_by_number();
+    let _program = checked.program();
+    code.body(number)
+}
+
+fn put_body(out: &mut Vec<u8>, kind: &[u8], name: &Name, words: &[u16]) -> Result<(), OutOfMemory>
+    requires { length words.now ≤ 50000 }
+    ensures { OnOk result (out.new.items ≡ out.old.items ++ body_lines kind.now name.now.text words.now) }
+{
+    put(out, kind)?;
+    put_field(out, name.text.as_slice())?;
+    put(out, b"\n")?;
+    put_lines(out, words)
+}

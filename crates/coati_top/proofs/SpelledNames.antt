@@ -10,7 +10,7 @@ use Rattle.task_syntax.specs.Names.{tasks_of_unit}
 use Rattle.task_parse.specs.Grammar as G
 use Rattle.task_parse.specs.Grammar.{Form, Reads}
 use Rattle.task_parse.specs.Lexeme.{Lexeme}
-use Rattle.task_check.specs.Mentions.{Part, body_part, event_part, expression_mentions, expressions_mentions, halves_part, in_turn, place_mentions, statement_part, statements_part, task_part, unit_bodies, unit_part, uses, var_part, chain, globals, bodies, mentions}
+use Rattle.task_check.specs.Mentions.{Part, body_part, event_part, expression_mentions, expressions_mentions, halves_part, in_turn, place_mentions, statement_part, statements_part, task_part, unit_bodies, unit_part, uses, var_part, chain, globals_part, bodies_part, mentions}
 use Rattle.coati_top.proofs.OnlyNames.{AreOnly, MentionsOnly, other_part, chain-only, num-only, get-only, one-only, two-only, plain-only, item-only, expressions-only, let-only, assign-only, if-only, repeat-only, next-only, halt-only, give-only, halves-only, turn-only}
 
 -- a token that is a name is of this kind
@@ -75,7 +75,7 @@ module _ (IsKind : Name → Type 0) where
   -- all that a program mentions
   mentions-only : (program : Program) → MentionsOnly IsKind (in_turn (map var_part program.vars)) → Tells IsKind (Form.Events program.events) → Tells IsKind (Form.Units program.units)
       → AreOnly IsKind (mentions program)
-  unfolding globals bodies
+  unfolding globals_part bodies_part
   mentions-only program vars events units =
       let first : Part = in_turn (map var_part program.vars) in
       let second : Part = in_turn (map event_part program.events) in

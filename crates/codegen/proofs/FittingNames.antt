@@ -60,22 +60,22 @@ module _ (program : Program) where
 
   -- the names in scope in each body
   abbrev globals : Scope
-  globals = (rules.globals program []).scope
+  globals = (rules.globals_part program []).scope
 
-  bodies-fine : IsAccepted program → AllFine (rules.bodies program globals).mentions
+  bodies-fine : IsAccepted program → AllFine (rules.bodies_part program globals).mentions
   bodies-fine accepted =
-      all-right IsFine (rules.globals program []).mentions (rules.bodies program globals).mentions
+      all-right IsFine (rules.globals_part program []).mentions (rules.bodies_part program globals).mentions
       (all_fine (rules.mentions program) (accepted 1 (omega arith) (omega arith)) (accepted 3 (omega arith) (omega arith)))
 
-  events-fine : AllFine (rules.bodies program globals).mentions → AllByRecursion (λ event. AllFine (rules.halves_part event globals).mentions) program.events
-  unfolding rules.bodies
+  events-fine : AllFine (rules.bodies_part program globals).mentions → AllByRecursion (λ event. AllFine (rules.halves_part event globals).mentions) program.events
+  unfolding rules.bodies_part
   events-fine fine =
       let halves = rules.in_turn (map rules.halves_part program.events) in
       let units = rules.in_turn (map rules.unit_bodies program.units) in
       each-fine rules.halves_part halves-leave program.events globals (all-left IsFine (halves globals).mentions (units (halves globals).scope).mentions fine)
 
-  units-fine : AllFine (rules.bodies program globals).mentions → AllByRecursion (λ unit. AllFine (rules.unit_bodies unit globals).mentions) program.units
-  unfolding rules.bodies
+  units-fine : AllFine (rules.bodies_part program globals).mentions → AllByRecursion (λ unit. AllFine (rules.unit_bodies unit globals).mentions) program.units
+  unfolding rules.bodies_part
   units-fine fine =
       let halves = rules.in_turn (map rules.halves_part program.events) in
       let units = rules.in_turn (map rules.unit_bodies program.units) in

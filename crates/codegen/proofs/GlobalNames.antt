@@ -138,8 +138,8 @@ module _ (program : Program) where
   events-keep [] = tt
   events-keep (event ∷ more) = (declared-keeps _ event.name (event-tells event), events-keep more)
 
-  globals-keep : Keeps (rules.globals program)
-  unfolding rules.globals
+  globals-keep : Keeps (rules.globals_part program)
+  unfolding rules.globals_part
   globals-keep =
       let vars = rules.in_turn (map rules.var_part program.vars) in
       let events = rules.in_turn (map rules.event_part program.events) in
@@ -161,5 +161,5 @@ module _ (program : Program) where
   }
 
   -- the names that each body has in scope
-  pub globals_known : AreKnown program (rules.globals program []).scope []
+  pub globals_known : AreKnown program (rules.globals_part program []).scope []
   globals_known = record { tells = globals-keep [] nothing-told; in_scope = λ name among. absurd (true≢false (sym among)) }

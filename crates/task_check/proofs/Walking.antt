@@ -21,7 +21,7 @@ use Rattle.task_check.specs.declared.walk.Walk.{Walk}
 use Rattle.task_check.specs.declared.meaning.Meaning.TheVariants as meaning
 use Rattle.task_check.specs.declared.role.Role.TheVariants as role
 use Rattle.task_check.specs.Scope.{Scope}
-use Rattle.task_check.specs.Mentions.{Mention, Part, chain, in_turn, uses, mention, expression_mentions, expression_mentions_step, place_mentions, place_mentions_step, expressions_mentions, declares, within, statement_part, statement_part_step, statements_part, declares_all, event_part, globals, bodies, mentions, halves_part, body_part, task_part, unit_bodies, unit_part, var_part}
+use Rattle.task_check.specs.Mentions.{Mention, Part, chain, in_turn, uses, mention, expression_mentions, expression_mentions_step, place_mentions, place_mentions_step, expressions_mentions, declares, within, statement_part, statement_part_step, statements_part, declares_all, event_part, globals_part, bodies_part, mentions, halves_part, body_part, task_part, unit_bodies, unit_part, var_part}
 use Rattle.task_check.specs.Found.{found_among, joined}
 use Rattle.task_check.specs.Walk.{behind}
 use Rattle.task_check.proofs.Adding.{Adds, first-names, chain-adds, declares-adds, declares_all-adds, statements-add}
@@ -146,9 +146,9 @@ pub ruleset walking = (behind-two, behind-item, behind-num, behind-let, behind-a
 pub behind-transaction : (name : Name) (members : List TaskDecl) (walk : Walk) → behind (chain (declares meaning.Transaction name) (in_turn (map task_part members))) walk ≡ behind (in_turn (map task_part members)) (behind (declares meaning.Transaction name) walk)
 behind-transaction name members walk = behind-chain (declares meaning.Transaction name) (in_turn (map task_part members)) walk
 
-pub behind-globals : (program : Program) (walk : Walk) → behind (globals program) walk
+pub behind-globals : (program : Program) (walk : Walk) → behind (globals_part program) walk
     ≡ behind (in_turn (map unit_part program.units)) (behind (in_turn (map event_part program.events)) (behind (in_turn (map var_part program.vars)) walk))
-unfolding globals
+unfolding globals_part
 behind-globals program walk =
     behind-chain (in_turn (map var_part program.vars)) (chain (in_turn (map event_part program.events)) (in_turn (map unit_part program.units))) walk
     ∙ behind-chain (in_turn (map event_part program.events)) (in_turn (map unit_part program.units)) (behind (in_turn (map var_part program.vars)) walk)
@@ -161,8 +161,8 @@ behind-halves event walk = behind-chain (within (chain (declares meaning.Local e
 pub behind-lone : (task : TaskDecl) (walk : Walk) → behind (unit_bodies (Lone task)) walk ≡ behind (body_part task) walk
 behind-lone task walk = behind-chain (body_part task) (in_turn []) walk ∙ behind-nothing (behind (body_part task) walk)
 
-pub behind-bodies : (program : Program) (walk : Walk) → behind (bodies program) walk ≡ behind (in_turn (map unit_bodies program.units)) (behind (in_turn (map halves_part program.events)) walk)
-unfolding bodies
+pub behind-bodies : (program : Program) (walk : Walk) → behind (bodies_part program) walk ≡ behind (in_turn (map unit_bodies program.units)) (behind (in_turn (map halves_part program.events)) walk)
+unfolding bodies_part
 behind-bodies program walk = behind-chain (in_turn (map halves_part program.events)) (in_turn (map unit_bodies program.units)) walk
 
 pub ruleset naming = (behind-bodies, behind-transaction, behind-globals, behind-bottom, behind-halves, behind-lone)
@@ -172,9 +172,9 @@ found-behind : (part : Part) → (behind part (record { scope = []; found = foun
 unfolding behind
 found-behind part = refl
 
-pub program-found : (program : Program) (declared last : Walk) → declared ≡ behind (globals program) (record { scope = []; found = found_among [] })
-    → last ≡ behind (bodies program) declared → last.found ≡ found_among (mentions program)
+pub program-found : (program : Program) (declared last : Walk) → declared ≡ behind (globals_part program) (record { scope = []; found = found_among [] })
+    → last ≡ behind (bodies_part program) declared → last.found ≡ found_among (mentions program)
 program-found program declared last one two =
     let start : Walk = record { scope = []; found = found_among [] } in
-    let all : last ≡ behind (chain (globals program) (bodies program)) start = two ∙ ap (behind (bodies program)) one ∙ sym (behind-chain (globals program) (bodies program) start) in
-    ap (λ (w : Walk). w.found) all ∙ found-behind (chain (globals program) (bodies program))
+    let all : last ≡ behind (chain (globals_part program) (bodies_part program)) start = two ∙ ap (behind (bodies_part program)) one ∙ sym (behind-chain (globals_part program) (bodies_part program) start) in
+    ap (λ (w : Walk). w.found) all ∙ found-behind (chain (globals_part program) (bodies_part program))

@@ -28,6 +28,7 @@ pub record Mention : Type 0 where
   pub role : Role
   pub meaning : Option Meaning
 
+-- a name where it stands in a scope
 abbrev pub mention : Role → Name → Scope → Mention
 mention role name scope = record { name = name; role = role; meaning = meaning_of scope name.text }
 
@@ -101,11 +102,11 @@ statement_part_step (Stmt-F.Next name) = uses (λ scope. mention role.Next name 
 statement_part_step (Stmt-F.Halt at) = in_turn []
 statement_part_step (Stmt-F.Give es at) = uses (expressions_mentions es)
 
--- a statement
+-- what a statement is
 abbrev pub statement_part : Stmt → Part
 statement_part = fold-Stmt Part statement_part_step
 
--- statements, one after another
+-- what statements are, one after another
 abbrev pub statements_part : List Stmt → Part
 statements_part block = in_turn (map statement_part block)
 
@@ -113,17 +114,20 @@ statements_part block = in_turn (map statement_part block)
 abbrev pub declares_all : Meaning → List Name → Part
 declares_all meaning names = in_turn (map (declares meaning) names)
 
--- a variable's name
+-- what a variable of this length is
 abbrev pub var_meaning : Option ℕ → Meaning
 var_meaning None = meaning.Scalar
 var_meaning (Some length) = meaning.Array
 
+-- a variable's name, declared
 abbrev pub var_part : Var → Part
 var_part var = declares (var_meaning var.length) var.name
 
+-- an event's name
 abbrev pub event_part : Event → Part
 event_part event = declares meaning.Event event.name
 
+-- a task's name
 abbrev pub task_part : TaskDecl → Part
 task_part task = declares meaning.Task task.name
 
@@ -133,8 +137,8 @@ unit_part (Lone task) = task_part task
 unit_part (Tx tx) = chain (declares meaning.Transaction tx.name) (in_turn (map task_part tx.tasks))
 
 -- the global names, in the order of their declarations
-unfoldable pub globals : Program → Part
-globals program = chain (in_turn (map var_part program.vars)) (chain (in_turn (map event_part program.events)) (in_turn (map unit_part program.units)))
+unfoldable pub globals_part : Program → Part
+globals_part program = chain (in_turn (map var_part program.vars)) (chain (in_turn (map event_part program.events)) (in_turn (map unit_part program.units)))
 
 -- the two halves of an event
 unfoldable pub halves_part : Event → Part
@@ -151,9 +155,9 @@ abbrev pub unit_bodies : UnitDecl → Part
 unit_bodies unit = in_turn (map body_part (tasks_of_unit unit))
 
 -- the bodies, each of which sees all global names
-unfoldable pub bodies : Program → Part
-bodies program = chain (in_turn (map halves_part program.events)) (in_turn (map unit_bodies program.units))
+unfoldable pub bodies_part : Program → Part
+bodies_part program = chain (in_turn (map halves_part program.events)) (in_turn (map unit_bodies program.units))
 
 -- the names of a program
 abbrev pub mentions : Program → List Mention
-mentions program = (chain (globals program) (bodies program) []).mentions
+mentions program = (chain (globals_part program) (bodies_part program) []).mentions

@@ -1,5 +1,5 @@
 ghost use Rattle.std.specs.Prelude.{◌≡◌, OnOk, IfOk, map};
-ghost use Rattle.task_check.specs.Mentions.{bodies, body_part, declares, declares_all, event_part, globals, halves_part, in_turn, task_part, unit_bodies, unit_part, var_meaning, var_part, within, chain, statements_part};
+ghost use Rattle.task_check.specs.Mentions.{bodies_part, body_part, declares, declares_all, event_part, globals_part, halves_part, in_turn, task_part, unit_bodies, unit_part, var_meaning, var_part, within, chain, statements_part};
 ghost use Rattle.task_check.specs.declared.meaning.Meaning.TheVariants as meaning;
 ghost use Rattle.task_check.specs.Walk.{behind};
 ghost use Rattle.task_check.specs.Least.{IsLeastOf};
@@ -27,7 +27,7 @@ pub(crate) fn names(alloc: Global, program: &Program) -> Result<Found, OutOfMemo
 /// The global names, in the order of their declarations.
 #[tactic(auto, using(crate::proofs::Walking::naming))]
 fn globals<'a>(walk: &mut Walk<'a>, program: &'a Program) -> Result<(), OutOfMemory>
-    ensures { OnOk result (walk.new ≡ behind (globals program.now) walk.old) }
+    ensures { OnOk result (walk.new ≡ behind (globals_part program.now) walk.old) }
 {
     variables(walk, program.vars.as_slice())?;
     events(walk, program.events.as_slice())?;
@@ -108,7 +108,7 @@ fn members<'a>(walk: &mut Walk<'a>, tasks: &'a [TaskDecl]) -> Result<(), OutOfMe
 /// The bodies, each of which sees all global names.
 #[tactic(auto, using(crate::proofs::Walking::naming))]
 fn bodies<'a>(walk: &mut Walk<'a>, program: &'a Program) -> Result<(), OutOfMemory>
-    ensures { OnOk result (walk.new ≡ behind (bodies program.now) walk.old) }
+    ensures { OnOk result (walk.new ≡ behind (bodies_part program.now) walk.old) }
 {
     halves(walk, program.events.as_slice())?;
     task_bodies(walk, program.units.as_slice())?;

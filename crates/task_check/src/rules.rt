@@ -8,8 +8,6 @@ mod gives;
 mod loops;
 mod measures;
 mod reading;
-#[cfg(test)]
-pub(crate) mod tests;
 mod tops;
 mod transitions;
 

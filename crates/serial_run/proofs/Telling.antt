@@ -1,0 +1,90 @@
+-- What is told of a run.
+use Rattle.std.proofs.Common.{◌≡◌, ℕ, List, [], length, refl, sym, ap, subst, ◌∙◌, true, false}
+use Rattle.std.specs.Prelude.{slice_index, Some, None}
+use Rattle.coati_word.specs.declared.reading.Reading.{Reading}
+use Rattle.coati_word.specs.declared.ending.Ending.{Ending}
+use Rattle.task_syntax.specs.declared.program.Program.{Program}
+use Rattle.task_syntax.specs.Course.{Course, Store, Access, accesses, answer}
+use Rattle.task_syntax.specs.Units.{Reached, is_inside, is_shared, tasks_effect, whole_effect}
+use Rattle.serial_run.specs.declared.outcome.Outcome.{Outcome}
+use Rattle.serial_run.specs.Moments.{KeepsReadings, KeepsTouches, Marks, Moment, Notes, behind, behind_all, end_of, no_marks, reading_from, touching_from}
+use Rattle.serial_run.specs.Outcomes.{Tells}
+use Rattle.serial_run.specs.Touched.{is_written}
+use Rattle.serial_run.specs.Units.{HasReached}
+use Rattle.serial_run.proofs.Keeping.{kept-behind_all, noted-readings, marks-are}
+use Rattle.serial_run.proofs.Steps.{count-behind_all, store-behind_all}
+
+-- the readings of notes
+abbrev pub readings_in : Notes → List Reading
+readings_in (Notes.all_readings before) = before
+readings_in (Notes.touched shared written) = []
+
+-- the marks of notes
+abbrev pub shared_in : Notes → Marks
+shared_in (Notes.all_readings before) = no_marks
+shared_in (Notes.touched shared written) = shared
+
+abbrev pub written_in : Notes → Marks
+written_in (Notes.all_readings before) = no_marks
+written_in (Notes.touched shared written) = written
+
+module _ (before : List ℕ) (done : List Access) (n : Moment) (came : n ≡ behind_all done (reading_from before)) where
+  pub keeps-readings : KeepsReadings n.kept
+  keeps-readings = rw (came, kept-behind_all done (reading_from before), noted-readings done []) tt
+
+module _ (before words : List ℕ) (done : List Access) (ending : Ending) (outcome : Outcome) (n : Moment)
+    (came : n ≡ behind_all done (reading_from before)) where
+  pub tells : n ≡ record { count = length words; store = slice_index words; kept = Notes.all_readings outcome.readings } → outcome.ending ≡ ending → Tells before done ending words outcome
+  tells is ends =
+      let last : record { count = length words; store = slice_index words; kept = Notes.all_readings outcome.readings } ≡ behind_all done (reading_from before) = sym is ∙ came in
+      record {
+        store_after = ap (λ (m : Moment). m.store) last ∙ store-behind_all done (reading_from before);
+        words = ap (λ (m : Moment). m.count) last ∙ count-behind_all done (reading_from before);
+        readings_told = ap (λ (m : Moment). readings_in m.kept) last ∙ ap readings_in (kept-behind_all done (reading_from before) ∙ noted-readings done []);
+        ending_told = ends;
+      }
+
+-- tasks of a unit that began on these words
+pub reached-from : (program : Program) (task count place : ℕ) (m begun n : Moment) → m ≡ begun → HasReached program task m count n place → HasReached program task begun count n place
+reached-from program task count place m begun n is reached = subst (λ (moment : Moment). HasReached program task moment count n place) is reached
+
+module _ (before : List ℕ) (done : List Access) (n : Moment) (came : n ≡ behind_all done (touching_from before)) where
+  touched-is : n.kept ≡ Notes.touched (is_shared done) (is_written done)
+  touched-is = ap (λ (m : Moment). m.kept) came ∙ kept-behind_all done (touching_from before) ∙ marks-are done
+
+  pub keeps-touches : KeepsTouches n.kept
+  keeps-touches = rw touched-is tt
+
+  pub shared-is : (shared written : Marks) → n.kept ≡ Notes.touched shared written → shared ≡ is_shared done
+  shared-is shared written is = ap shared_in (sym is ∙ touched-is)
+
+  pub written-is : (shared written : Marks) → n.kept ≡ Notes.touched shared written → written ≡ is_written done
+  written-is shared written is = ap written_in (sym is ∙ touched-is)
+
+-- a course that runs from a moment on
+pub came-behind : {A : Type 0} (course : Course A) (m : Moment) → behind course m ≡ behind_all (accesses course m.store) m
+unfolding behind
+came-behind course m = refl
+
+pub ends-with : {A : Type 0} (course : Course A) (m : Moment) → end_of course m ≡ answer course m.store
+unfolding end_of
+ends-with course m = refl
+
+-- a unit that has come to a place outside is whole, and one that is inside isn't
+pub whole-outside : (program : Program) (task : ℕ) (store : Store) (count : ℕ) (reached : Reached) → tasks_effect program task store count ≡ Some reached → is_inside program task reached.place ≡ false →
+    whole_effect program task store count ≡ Some reached
+whole-outside program task store count reached found outside = rw (found, outside) refl
+
+pub none-inside : (program : Program) (task : ℕ) (store : Store) (count : ℕ) (reached : Reached) → tasks_effect program task store count ≡ Some reached → is_inside program task reached.place ≡ true →
+    whole_effect program task store count ≡ None
+none-inside program task store count reached found inside = rw (found, inside) refl
+
+-- a run of a course that began on these words
+pub ran-from : {A : Type 0} (course : Course A) (before : List ℕ) (m n : Moment) → m ≡ reading_from before → n ≡ behind course m → n ≡ behind_all (accesses course (slice_index before)) (reading_from before)
+ran-from course before m n begun came = came ∙ ap (behind course) begun ∙ came-behind course (reading_from before)
+
+pub touched-from : {A : Type 0} (course : Course A) (before : List ℕ) (m n : Moment) → m ≡ touching_from before → n ≡ behind course m → n ≡ behind_all (accesses course (slice_index before)) (touching_from before)
+touched-from course before m n begun came = came ∙ ap (behind course) begun ∙ came-behind course (touching_from before)
+
+pub ended-from : {A : Type 0} (course : Course A) (before : List ℕ) (m : Moment) (result : A) → m ≡ reading_from before → result ≡ end_of course m → result ≡ answer course (slice_index before)
+ended-from course before m result begun ends = ends ∙ ap (end_of course) begun ∙ ends-with course (reading_from before)

@@ -1,0 +1,10 @@
+pub mod Aims
+pub mod Fits
+pub mod Locals
+pub mod Moments
+pub mod Runs
+pub mod Sound
+pub mod Ways
+pub mod Outcomes
+pub mod Touched
+pub mod Units

@@ -1,0 +1,77 @@
+ghost use Rattle.std.specs.Prelude.{◌≡◌, IfOk, IsTrue, OnOk, slice_get};
+ghost use Rattle.task_syntax.specs.Expressions.{no_locals};
+ghost use Rattle.task_syntax.specs.Names.{tasks, tasks_of_unit};
+ghost use Rattle.task_syntax.specs.Statements.{body};
+ghost use Rattle.task_syntax.specs.Units.{statements_of, task_course};
+ghost use Rattle.serial_run.specs.Locals.{locals_of};
+ghost use Rattle.serial_run.specs.Moments.{behind, end_of};
+ghost use Rattle.serial_run.specs.Runs.{IsRunOf, moment_of};
+ghost use Rattle.serial_run.specs.Sound.{IsSound, gives_fit_in};
+
+use crate::locals::Locals;
+use crate::run::Run;
+use crate::statement::statements;
+use coati_word::{Ending, OutOfMemory};
+use std::alloc::Global;
+use task_check::Checked;
+use task_syntax::{Stmt, TaskDecl, UnitDecl};
+
+/// Runs a body on its parameters.
+pub(crate) fn run_body<'p>(
+    checked: &Checked,
+    locals: &mut Locals<'p>,
+    run: &mut Run,
+    block: &'p [Stmt],
+) -> Result<Ending, OutOfMemory>
+    requires sound { IsSound checked.now }
+    requires run { IsRunOf checked.now run.old }
+    requires gives { IsTrue (gives_fit_in block.now) }
+    ensures ending { IfOk result (λ ending. ending ≡ end_of (body checked.now block.now (locals_of locals.old)) (moment_of run.old)) }
+    ensures still { OnOk result (IsRunOf checked.now run.new) }
+    ensures moment { OnOk result (moment_of run.new ≡ behind (body checked.now block.now (locals_of locals.old)) (moment_of run.old)) }
+{
+    let ending = statements(checked, locals, run, block)?;
+    Ok(ending.unwrap_or(Ending::Done))
+}
+
+/// Runs a task.
+pub(crate) fn run_task(
+    alloc: Global,
+    checked: &Checked,
+    run: &mut Run,
+    task: u16,
+) -> Result<Ending, OutOfMemory>
+    requires sound { IsSound checked.now }
+    requires run { IsRunOf checked.now run.old }
+    ensures ending { IfOk result (λ ending. ending ≡ end_of (task_course checked.now task) (moment_of run.old)) }
+    ensures still { OnOk result (IsRunOf checked.now run.new) }
+    ensures moment { OnOk result (moment_of run.new ≡ behind (task_course checked.now task) (moment_of run.old)) }
+{
+    let mut locals = Locals::new(alloc);
+    run_body(checked, &mut locals, run, task_body(checked, task))
+}
+
+/// The statements of a task. A task that isn't there has none.
+fn task_body(checked: &Checked, task: u16) -> &[Stmt]
+    ensures { result.now ≡ statements_of (slice_get (tasks checked.now) task) }
+{
+    let mut left = task as usize;
+    for unit in checked.program().units.as_slice() {
+        let members = members_of(unit);
+        if left < members.len() {
+            return members[left].body.as_slice();
+        }
+        left -= members.len();
+    }
+    &[]
+}
+
+/// The tasks of a unit.
+fn members_of(unit: &UnitDecl) -> &[TaskDecl]
+    ensures { result.now ≡ tasks_of_unit unit.now }
+{
+    match unit {
+        UnitDecl::Lone(task) => std::slice::from_ref(task),
+        UnitDecl::Tx(tx) => tx.tasks.as_slice(),
+    }
+}

@@ -1,0 +1,24 @@
+//! The plain evaluator: what tasks, transactions and events do, one after another and each whole, with no cut of power.
+#![tactic(auto)]
+
+mod body;
+mod event_runs;
+mod expression;
+mod kept;
+mod locals;
+mod outcome;
+mod readings;
+mod run;
+mod sound;
+mod statement;
+mod store;
+mod target;
+mod task_runs;
+mod touches;
+mod unit;
+mod words;
+
+pub use outcome::{Outcome, TxRun};
+pub use readings::Readings;
+pub use store::SerialStore;
+pub use words::Words;

@@ -1,3 +1,4 @@
+mod listings;
 mod rules;
 
 use coati_io::{MemSink, MemSource};

@@ -13,8 +13,8 @@ use crate::source::read_source;
 use crate::source_fault::NoProgram;
 use crate::{Command, Status};
 use coati_board::Board;
-use codegen::{compile, listing};
 use coati_word::{Mode, OutOfMemory};
+use codegen::{compile, listing};
 use std::alloc::Global;
 use task_check::Checked;
 

@@ -10,7 +10,6 @@ use coati_word::OutOfMemory;
 use std::alloc::Global;
 use task_syntax::Program;
 
-
 /// The program, where it keeps all rules; else the first rule that it breaks, at its least place. The program is given up
 /// on a refusal.
 pub fn check(alloc: Global, program: Program) -> Result<Checked, CheckFault>

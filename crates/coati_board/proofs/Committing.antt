@@ -1,17 +1,13 @@
 -- No write of a commit changes what memory stands for.
-use Rattle.std.proofs.Common.{◌≡◌, ◌≢◌, ◌⊎◌, ◌==◌, ℕ, zero, suc, ◌+◌, ◌<◌, ◌≤◌, List, [], ◌∷◌, length, get_or, set, refl, ap, sym, subst, ◌∙◌, arith, inl, inr, Some, None, Option, if◌then◌else◌, Bool, true, false, add-one, get_or-set_same, get_or-set_other}
+use Rattle.std.proofs.Common.{◌≡◌, ◌≢◌, ◌==◌, ℕ, zero, suc, ◌<◌, List, get_or, set, refl, ap, sym, ◌∙◌, arith, Some, None, Option, if◌then◌else◌, Bool, true, false, get_or-set_other}
 use Rattle.std.specs.Option.{unwrap_or}
-use Rattle.std.proofs.lemmas.Bool.{cases_eq}
 use Rattle.std.proofs.lemmas.Bool.Decides.{nat_tests}
-use Rattle.task_syntax.specs.Course.{Store, put}
 use Rattle.coati_board.specs.declared.memory.Write.{Write}
 use Rattle.coati_board.specs.declared.memory.Write.TheVariants as write
-use Rattle.coati_board.specs.Memory.{Memory, written, word_at, value_at, logged, logged_word, seen_word, IsApplied, IsNextWrite, IsInRange}
+use Rattle.coati_board.specs.Memory.{Memory, written, word_at, value_at, logged, logged_word, seen_word, IsApplied, IsNextWrite}
 use Rattle.coati_board.specs.Memory.IsNextWrite.{pair, emptied, place, marker}
 use Rattle.coati_board.specs.StandsFor.{committed_word, place_of}
-use Rattle.coati_board.proofs.Courses.{pointwise}
 use Rattle.coati_board.proofs.Logs.{none_at}
-use Rattle.coati_board.proofs.Ranges.{logged_word_behind, logged_value_behind}
 
 -- what is found stands in the log
 pub record Found (ws vs : List ℕ) (k a x : ℕ) : Type 0 where

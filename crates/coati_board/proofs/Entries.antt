@@ -1,5 +1,5 @@
 -- The entries of a history that grows.
-use Rattle.std.proofs.Common.{◌≡◌, ℕ, ◌+◌, ◌<◌, ◌≤◌, List, [], ◌∷◌, ◌++◌, length, take, drop, refl, ap, sym, subst, ◌∙◌, arith, append_assoc, append-nil, length-append}
+use Rattle.std.proofs.Common.{◌≡◌, ℕ, ◌+◌, ◌≤◌, List, [], ◌∷◌, ◌++◌, length, take, drop, refl, ap, sym, ◌∙◌, arith, append_assoc, append-nil, length-append}
 use Rattle.std.proofs.lemmas.Grind.{common_steps}
 use Rattle.coati_word.specs.declared.reading.Reading.{Reading}
 use Rattle.task_syntax.specs.declared.program.Program.{Program}
@@ -9,7 +9,7 @@ use Rattle.coati_board.specs.declared.history.MarkKind.TheVariants.{Commit}
 use Rattle.coati_board.specs.declared.history.MarkKind.TheVariants as kind
 use Rattle.coati_board.specs.declared.history.End.{End}
 use Rattle.coati_board.specs.declared.history.Record.{Record}
-use Rattle.coati_board.specs.History.{Past, IsRecordIn, AreRecordsIn, readings_in, record_of_task, with_commit, with_mark}
+use Rattle.coati_board.specs.History.{Past, IsRecordIn, AreRecordsIn, readings_in, record_of_task, with_commit}
 use Rattle.coati_board.specs.SerialRun.{Entry, Stand, entries_of, entries, after_unit, after_entries, IsNext, AreSerial}
 use Rattle.coati_board.proofs.Records.{records_more, records_push}
 

@@ -1,14 +1,12 @@
 -- Each act keeps the serial run, and what memory stands for.
-use Rattle.std.proofs.Common.{◌≡◌, ◌≢◌, ◌⊎◌, ◌==◌, ℕ, zero, suc, ◌+◌, ◌<◌, ◌≤◌, List, [], ◌∷◌, ◌++◌, length, drop, get_or, set, refl, ap, sym, subst, ◌∙◌, arith, inl, inr, Some, None, Option, if◌then◌else◌, Bool, true, false, add-one, append-nil, length-drop, get_or-set_same, get_or-set_other}
+use Rattle.std.proofs.Common.{◌≡◌, ◌≢◌, ◌==◌, ℕ, zero, suc, ◌+◌, ◌<◌, List, [], ◌∷◌, ◌++◌, length, drop, get_or, set, refl, ap, sym, subst, ◌∙◌, arith, Some, None, Option, if◌then◌else◌, Bool, true, false, append-nil, length-drop, get_or-set_same, get_or-set_other}
 use Rattle.std.specs.Option.{unwrap_or}
 use Rattle.std.proofs.lemmas.Bool.Decides.{nat_tests}
 use Rattle.coati_word.specs.declared.ending.Ending.{Ending}
 use Rattle.coati_word.specs.declared.reading.Reading.{Reading}
 use Rattle.task_syntax.specs.declared.program.Program.{Program}
 use Rattle.task_syntax.specs.declared.expression.Expr.{Expr}
-use Rattle.task_syntax.specs.declared.expression.Place.TheVariants.{Plain}
 use Rattle.task_syntax.specs.declared.statement.Stmt.{Stmt}
-use Rattle.task_syntax.specs.declared.statement.Stmt.TheVariants.{Assign}
 use Rattle.task_syntax.specs.Course.{Course, chain, Store, put, Access, accesses, answer, after, readings}
 use Rattle.task_syntax.specs.Names.{tasks}
 use Rattle.task_syntax.specs.Expressions.{no_locals, expression}
@@ -19,30 +17,30 @@ use Rattle.coati_board.specs.declared.history.Unit.TheVariants.{Task}
 use Rattle.coati_board.specs.declared.device.Device.{Device}
 use Rattle.coati_board.specs.declared.device.Phase.{Phase}
 use Rattle.coati_board.specs.declared.device.Phase.TheVariants.{Choose, Run, Value, Length, End}
-use Rattle.coati_board.specs.FirstForm.{IsFirstForm, IsBody, IsLast, IsExpression}
+use Rattle.coati_board.specs.FirstForm.{IsFirstForm, IsBody, IsLast}
 use Rattle.coati_board.specs.FirstForm.IsLast.{ending, choice}
 use Rattle.coati_board.specs.Memory.{Memory, written, word_at, value_at, logged, logged_word, seen_word, IsNextWrite, IsInRange}
 use Rattle.coati_board.specs.Memory.IsNextWrite.{pair, emptied, place, marker}
-use Rattle.coati_board.specs.StandsFor.{committed_word, place_of}
+use Rattle.coati_board.specs.StandsFor.{committed_word}
 use Rattle.coati_board.specs.History.{Past, with_commit}
 use Rattle.coati_board.specs.Tasks.{task_body, course_from}
 use Rattle.task_syntax.specs.Units.{place_after, task_course}
 use Rattle.coati_board.specs.Fit.{IsFit, IsPhaseOf}
 use Rattle.coati_board.specs.Act.{IsAct, IsRunning, Assigns, value_here, readings_here}
 use Rattle.coati_board.specs.Act.IsAct.{applies, sleeps, starts, replaces, numbers, values, lengthens, ends, places, commits}
-use Rattle.coati_board.specs.SerialRun.{Entry, Stand, entries, opening_stand, after_task, after_unit, after_entries, IsNext, AreSerial, SerialRun, stand_of}
-use Rattle.coati_board.specs.Sound.{HasReached, HasCome, HasEnded, IsAttempt, StandsFor, IsSound}
+use Rattle.coati_board.specs.SerialRun.{Entry, Stand, entries, opening_stand, after_task, after_entries, IsNext, AreSerial, stand_of}
+use Rattle.coati_board.specs.Sound.{HasReached, HasCome, IsAttempt, StandsFor, IsSound}
 use Rattle.coati_board.proofs.Declared.{task_has_body}
 use Rattle.coati_board.proofs.Courses.{pointwise, accesses_chain}
 use Rattle.coati_board.proofs.Forms.{expression_reads}
 use Rattle.coati_board.proofs.Bodies.{body_from, body_assigns, body_ends, body_chooses}
-use Rattle.coati_board.proofs.Ranges.{logged_same, logged_word_behind, logged_value_behind}
+use Rattle.coati_board.proofs.Ranges.{logged_word_behind, logged_value_behind}
 use Rattle.coati_board.proofs.Fitting.{ending_leads, phase_there, assigned_below}
 use Rattle.coati_board.proofs.Logs.{room_for_new}
 use Rattle.coati_board.proofs.Room.{assigned_expression}
 use Rattle.coati_board.proofs.Reaching.{reach_none, reach_value, reach_write, reach_end, reach_same}
 use Rattle.coati_board.proofs.Entries.{entry_of_task, entries_commit, records_commit, after_push, serial_push}
-use Rattle.coati_board.proofs.Committing.{StandsSame, commit_stands, committed_under, committed_clear, place_under, place_clear, seen_empty, logged_at, unwrap_cases}
+use Rattle.coati_board.proofs.Committing.{StandsSame, commit_stands, committed_clear, place_clear, seen_empty, logged_at}
 
 -- memory that stands for the same stands for the same run
 stands_same : (p : Program) (m n : Memory) (past : Past) → StandsSame m n → StandsFor p m past → StandsFor p n past

@@ -1,5 +1,5 @@
 -- Each step leaves a board.
-use Rattle.std.proofs.Common.{◌≡◌, ℕ, ◌+◌, ◌-◌, ◌<◌, ◌≤◌, List, [], ◌∷◌, ◌++◌, length, refl, ap, sym, subst, ◌∙◌, arith, None, Some, inl}
+use Rattle.std.proofs.Common.{◌≡◌, ℕ, ◌+◌, ◌-◌, ◌<◌, ◌≤◌, List, length, refl, ap, sym, subst, ◌∙◌, arith, None, Some, inl}
 use Rattle.std.proofs.lemmas.List.{length-replicate}
 use Rattle.task_syntax.specs.declared.program.Program.{Program}
 use Rattle.coati_board.specs.declared.device.Device.{Device}
@@ -14,8 +14,8 @@ use Rattle.coati_board.specs.Act.IsAct.{applies, sleeps, starts, replaces, numbe
 use Rattle.coati_board.specs.Board.{IsBoard, opened}
 use Rattle.coati_board.specs.declared.history.Record.{Record}
 use Rattle.coati_board.specs.History.{HasRecord, readings_in}
-use Rattle.coati_board.specs.SerialRun.{Entry, Stand, after_entries, opening_stand, AreSerial, SerialRun, stand_of}
-use Rattle.coati_board.specs.Sound.{IsSound, IsAttempt, StandsFor}
+use Rattle.coati_board.specs.SerialRun.{Entry, Stand, after_entries, opening_stand, AreSerial}
+use Rattle.coati_board.specs.Sound.{IsSound, IsAttempt}
 use Rattle.coati_board.proofs.Serial.{act_sound}
 use Rattle.coati_board.proofs.Entries.{entries_end, readings_kept}
 use Rattle.coati_board.proofs.Records.{records_push, record_there}

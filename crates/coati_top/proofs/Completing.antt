@@ -1,7 +1,6 @@
 -- Why an undisturbed call on an input that is served succeeds: each other status has a cause that it rules out.
-use Rattle.std.proofs.Common.{◌≡◌, ℕ, ◌+◌, ◌≤◌, List, [], ◌++◌, length, Some, None, IfSome, refl, sym, ap, ◌∙◌, subst, inl, inr, append-nil, length-append, arith}
+use Rattle.std.proofs.Common.{◌≡◌, ℕ, ◌+◌, ◌≤◌, List, ◌++◌, length, Some, None, refl, sym, ap, ◌∙◌, subst, inl, inr, append-nil, length-append, arith}
 use Rattle.std.specs.Prelude.{Option}
-use Rattle.std.specs.Io.KnownBytes.{Consumes, IsAtEnd}
 use Rattle.task_lex.specs.Reading.{Tokens, FaultsAt}
 use Rattle.task_lex.specs.declared.fault.LexFault.{LexFault}
 use Rattle.task_lex.specs.declared.fault.LexFault.TheVariants.{BadByte, BadNumber}

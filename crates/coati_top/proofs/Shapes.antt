@@ -1,18 +1,18 @@
 -- What is known of a part of a program from its shape.
-use Rattle.std.proofs.Common.{◌≡◌, ◌≢◌, ℕ, List, [], ◌∷◌, length, sym, ap, ◌∙◌, subst, inl, inr, arith}
+use Rattle.std.proofs.Common.{◌≡◌, List, [], ◌∷◌, sym, ap, ◌∙◌, subst}
 use Rattle.std.specs.Prelude.{Some, None, Option}
 use Rattle.coati_word.specs.declared.operator.Op.{Op}
 use Rattle.task_syntax.specs.declared.program.Program.{Program}
 use Rattle.task_syntax.specs.declared.name.Name.{Name}
 use Rattle.task_syntax.specs.declared.expression.Expr as E
 use Rattle.task_syntax.specs.declared.expression.Expr.{Expr}
-use Rattle.task_syntax.specs.declared.expression.Expr.TheVariants.{Num, Get, Two, outs-Two}
+use Rattle.task_syntax.specs.declared.expression.Expr.TheVariants.{Get, Two, outs-Two}
 use Rattle.task_syntax.specs.declared.expression.Place.{Place}
 use Rattle.task_syntax.specs.declared.expression.Place.TheVariants.{Plain}
 use Rattle.task_syntax.specs.declared.statement.Stmt as S
 use Rattle.task_syntax.specs.declared.statement.Stmt.{Stmt}
-use Rattle.task_syntax.specs.declared.statement.Stmt.TheVariants.{Assign, If, Next, Halt, outs-If}
-use Rattle.coati_board.specs.FirstForm.{IsVariable, IsTask, IsOperand, number, variable, IsJoin, IsExpression, alone, joined, IsAssignment, IsEnding, next, halt, IsLast, ending, choice}
+use Rattle.task_syntax.specs.declared.statement.Stmt.TheVariants.{Assign, If, Next, outs-If}
+use Rattle.coati_board.specs.FirstForm.{IsTask, IsOperand, number, variable, IsJoin, IsExpression, alone, joined, IsAssignment, IsEnding, next, halt, IsLast, ending, choice}
 use Rattle.coati_top.specs.FormParts.{IsVariablePlace, IsEndingBlock}
 
 -- the place that is read is a variable

@@ -1,6 +1,6 @@
 -- What a call of the program did at its two ends, and why it ended with its status.
-use Rattle.std.specs.Prelude.{◌≡◌, ◌⊎◌, ℕ, ◌+◌, ◌<◌, ◌≤◌, List, length, take, Option, Some, None, IfSome}
-use Rattle.std.specs.Io.KnownBytes.{Consumes, Appends}
+use Rattle.std.specs.Prelude.{◌≡◌, ◌⊎◌, ℕ, ◌+◌, ◌<◌, ◌≤◌, List, length, take, Option, Some, None}
+use Rattle.std.specs.Io.KnownBytes.{Appends}
 use Rattle.coati_io.specs.Causes.{Rose}
 use Rattle.coati_io.specs.Ends.{ReadsWhole, ConsumesExactly}
 use Rattle.coati_top.specs.declared.command.Command.{Command}

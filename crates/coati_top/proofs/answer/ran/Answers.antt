@@ -1,4 +1,4 @@
-use Rattle.std.proofs.Common.{◌≡◌, refl, ap, ◌∙◌, sym, subst}
+use Rattle.std.proofs.Common.{refl, ap, ◌∙◌, sym, subst}
 use Rattle.coati_board.specs.Board.{Whole}
 use Rattle.task_syntax.specs.declared.program.Program.{Program}
 use Rattle.coati_top.specs.Answer.{AsksFor}

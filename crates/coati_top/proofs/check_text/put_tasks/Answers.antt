@@ -1,4 +1,4 @@
-use Rattle.std.proofs.Common.{◌≡◌, ℕ, ◌<◌, ◌++◌, List, length, ap, ◌∙◌, arith}
+use Rattle.std.proofs.Common.{◌≡◌, ℕ, ◌++◌, List, ap, ◌∙◌, arith}
 use Rattle.std.specs.Prelude.{codes, Option}
 use Rattle.std.specs.Option.{option_map_or}
 use Rattle.task_syntax.specs.declared.program.TaskDecl.{TaskDecl}

@@ -1,5 +1,4 @@
-use Rattle.std.proofs.Common.{◌≡◌, ◌∙◌, sym, ap, subst}
-use Rattle.task_syntax.specs.declared.expression.Expr.{Expr}
+use Rattle.std.proofs.Common.{sym, subst}
 use Rattle.coati_board.specs.FirstForm.{IsOperand, alone, joined}
 use Rattle.coati_top.proofs.Shapes.{Joins-expression, IsOperand-expression}
 use Rattle.coati_top.proofs.first_form.is_expression.Goals as goal

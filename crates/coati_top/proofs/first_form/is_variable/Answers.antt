@@ -1,4 +1,4 @@
-use Rattle.std.proofs.Common.{◌≡◌, ◌∙◌, sym, ap}
+use Rattle.std.proofs.Common.{◌∙◌, sym, ap}
 use Rattle.task_syntax.specs.declared.program.Var.{Var}
 use Rattle.std.proofs.Common.{List}
 use Rattle.coati_top.specs.FormParts.{has_variable}

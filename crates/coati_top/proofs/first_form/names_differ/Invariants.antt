@@ -1,4 +1,4 @@
-use Rattle.std.proofs.Common.{◌≡◌, ◌≢◌, ℕ, ◌<◌, ◌≤◌, ◌+◌, List, length, get_or}
+use Rattle.std.proofs.Common.{◌≢◌, ℕ, ◌<◌, List, get_or}
 use Rattle.coati_top.specs.FormParts.{names_of}
 use Rattle.coati_top.proofs.first_form.names_differ.Given as goal
 

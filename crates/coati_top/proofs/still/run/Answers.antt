@@ -1,4 +1,3 @@
-use Rattle.std.proofs.Common.{refl}
 use Rattle.coati_top.specs.Call.{input_edge, output_edge}
 use Rattle.coati_top.proofs.Explaining.{explains_answer, explains_too_large}
 use Rattle.coati_top.proofs.still.run.Goals as goal

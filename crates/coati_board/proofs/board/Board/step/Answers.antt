@@ -1,5 +1,4 @@
 use Rattle.std.proofs.Common.{◌≡◌, ◌<◌, ap, ◌∙◌, sym, subst, None, arith}
-use Rattle.coati_board.specs.declared.history.Record.{Record}
 use Rattle.coati_board.specs.History.{Past, HasRecord, end_of, readings_in}
 use Rattle.coati_board.specs.Board.{Whole}
 use Rattle.coati_board.proofs.Stepping.{Stepped, step_keeps, old_readings}

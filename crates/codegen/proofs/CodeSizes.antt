@@ -1,5 +1,5 @@
 -- Numbers of words that the code of each part has, wherever it stands.
-use Rattle.std.proofs.Common.{◌≡◌, ℕ, ◌≤◌, ◌<◌, List, [], ◌∷◌, length, map, arith, append_assoc}
+use Rattle.std.proofs.Common.{◌≡◌, ℕ, ◌≤◌, ◌<◌, List, [], ◌∷◌, length, map, arith}
 use Rattle.task_syntax.specs.declared.program.Program.{Program}
 use Rattle.task_syntax.specs.declared.expression.Expr.{Expr}
 use Rattle.task_syntax.specs.declared.expression.Place.{Place}
@@ -22,8 +22,6 @@ size-statement_code program s scope at = statement_size program s scope at
 
 pub size-statements_code : (program : Program) (block : List Stmt) (scope : Scope) (at : ℕ) → size ((statements_code program block scope).code at) ≡ statements_words block
 size-statements_code program block scope at = statements_size program block scope at
-
-pub ruleset emitting = (append_assoc, size-expression_code, size-statement_code, size-statements_code)
 
 -- an expression has a word at least
 record IsLong (e : Expr) : Type 0 where

@@ -38,4 +38,5 @@ pub mod InTurn
 pub mod JumpingCode
 pub mod EachPart
 pub mod LinesOfWords
-pub mod TasksByNumber
+pub mod FromNumber
+pub mod InstructionLines

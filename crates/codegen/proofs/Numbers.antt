@@ -1,12 +1,13 @@
 -- Each body of a program stands among the code under its number.
-use Rattle.std.proofs.Common.{◌≡◌, ℕ, zero, suc, ◌+◌, ◌*◌, List, [], ◌∷◌, ◌++◌, map, length, refl, ap, ◌∙◌, subst, arith}
+use Rattle.std.proofs.Common.{◌≡◌, ℕ, zero, suc, ◌+◌, ◌*◌, List, [], ◌∷◌, ◌++◌, map, length, refl, sym, ap, ◌∙◌, subst, arith}
 use Rattle.std.specs.Prelude.{Option, Some, None, flat_map, slice_get}
 use Rattle.std.specs.Option.{option_map}
-use Rattle.std.proofs.lemmas.List.{length-map}
+use Rattle.std.proofs.lemmas.List.{length-map, map-append}
 use Rattle.std.proofs.lemmas.List.Elements.{All-get_or}
 use Rattle.std.proofs.lemmas.Option.{slice_get-map, slice_get_within, get_or_from_slice_get}
 use Rattle.task_syntax.specs.declared.program.Program.{Program}
 use Rattle.task_syntax.specs.declared.program.Event.{Event}
+use Rattle.task_syntax.specs.declared.program.TaskDecl.{TaskDecl}
 use Rattle.task_syntax.specs.declared.body.BodyId.{BodyId}
 use Rattle.task_syntax.specs.declared.body.BodyId.TheVariants.{Task, Top, Bottom}
 use Rattle.task_syntax.specs.Names.{tasks}
@@ -14,6 +15,7 @@ use Rattle.word_code.specs.Code.{IsInItsPart, number_of}
 use Rattle.codegen.specs.Bodies.{Body, task_body, top_half, bottom_half, halves, bodies, body_of, words_of_body, EachFits}
 use Rattle.codegen.specs.CodeLaws.{StandsByNumber}
 use Rattle.codegen.specs.Fit.{Fits}
+use Rattle.codegen.specs.Templates.{task_words, half_words, program_words}
 
 in-front : {X : Type 0} (xs ys : List X) (i : ℕ) (x : X) → slice_get xs i ≡ Some x → slice_get (xs ++ ys) i ≡ Some x
 in-front [] ys i x h = absurd (let never : None ≡ Some x = h in cc)
@@ -61,12 +63,27 @@ module _ (program : Program) where
   in-its-part (Top event) body h = tt
   in-its-part (Bottom event) body h = tt
 
+  -- the words of the bodies in their order
+  words-in-order : (events : List Event) → map (words_of_body program) (flat_map halves events) ≡ flat_map (half_words program) events
+  words-in-order [] = refl
+  words-in-order (event ∷ events) = ap (λ more. words_of_body program (top_half event) ∷ words_of_body program (bottom_half event) ∷ more) (words-in-order events)
+
+  task-words-in-order : (all : List TaskDecl) → map (words_of_body program) (map task_body all) ≡ map (task_words program) all
+  task-words-in-order [] = refl
+  task-words-in-order (task ∷ more) = ap (λ rest. words_of_body program (task_body task) ∷ rest) (task-words-in-order more)
+
+  words-are : map (words_of_body program) (bodies program) ≡ program_words program
+  words-are =
+      map-append (words_of_body program) (map task_body (tasks program)) (flat_map halves program.events)
+      ∙ ap (λ front. front ++ map (words_of_body program) (flat_map halves program.events)) (task-words-in-order (tasks program))
+      ∙ ap (λ back. map (task_words program) (tasks program) ++ back) (words-in-order program.events)
+
   pub stands_by_number : (number : BodyId) (body : Body) → body_of program number ≡ Some body → StandsByNumber program number body
   stands_by_number number body h =
       let i = number_of (length (tasks program)) number in
-      let words = map (words_of_body program) (bodies program) in
+      let words = program_words program in
       let found : slice_get words i ≡ Some (words_of_body program body) =
-      slice_get-map (words_of_body program) (bodies program) i ∙ ap (option_map (words_of_body program)) (body-found number body h) in
+      ap (λ all. slice_get all i) (sym words-are) ∙ slice_get-map (words_of_body program) (bodies program) i ∙ ap (option_map (words_of_body program)) (body-found number body h) in
       record {
         exists = record { part = in-its-part number body h; exists = slice_get_within words i (words_of_body program body) found };
         words_are = get_or_from_slice_get words i (words_of_body program body) [] found;

@@ -15,7 +15,7 @@ use Rattle.task_syntax.specs.Expressions.{Locals, Aim, plain_aim, item_aim, valu
 use Rattle.task_syntax.specs.Statements.{assigned}
 use Rattle.word_code.specs.declared.instruction.Instr.{Instr}
 use Rattle.codegen.specs.Scope.{Local, Scope, slot_of}
-use Rattle.codegen.specs.Templates.{PlaceCode, plain_code, item_code, storing, plainly}
+use Rattle.codegen.specs.Templates.{PlaceCode, plain_code, item_code, plainly}
 use Rattle.codegen.specs.Fit.{is_among, Sparing}
 use Rattle.codegen.proofs.Agreement.{names_of, Sound, slot_known}
 use Rattle.codegen.proofs.Operands.{Gives, local_gives, word_gives, item_gives}
@@ -58,6 +58,10 @@ pub record Small (scope : List Local) : Type 0 where
 pub small_slots : (scope : Scope) (loops : List (List ℕ)) → Sound scope loops → scope.next ≤ 32 → Small scope.locals
 small_slots scope loops sound small = record { by = λ name slot e. (let below = sound.below name slot e in omega (arith, below, small)) }
 
+-- a value that is stored at a place
+abbrev stored : PlaceCode → List Instr → List Instr
+stored place value = place.index ++ (value ++ place.store ∷ [])
+
 module _ (words : List ℕ) (count : ℕ) where
   -- the code of a place reads it and writes it
   pub record GoodPlace (names : List (List ℕ) → Bool) (spares : Sparing) (depth : Option ℕ) (index store : ℕ) (code : List Local → PlaceCode) (aim : Locals → Course Aim) : Type 0 where
@@ -65,7 +69,7 @@ module _ (words : List ℕ) (count : ℕ) where
         Gives words count scope ((code scope).index ++ (code scope).load ∷ []) (read_depth depth) (index + 1) (λ values. chain (aim values) (value_at values))
     pub write : (scope : Scope) (loops : List (List ℕ)) → Sound scope loops → scope.next ≤ 32 → names (names_of scope.locals) ≡ true → spares loops ≡ true →
         (value : List Local → List Instr) (d c : ℕ) (course : Locals → Course ℕ) → store_depth depth d ≤ 32 → Gives words count scope.locals (value scope.locals) d c course →
-        Works words count false scope loops (plainly (λ locals. storing (code locals) (value locals)) scope) (index + c + store)
+        Works words count false scope loops (plainly (λ locals. stored (code locals) (value locals)) scope) (index + c + store)
         (λ values. chain (aim values) (λ a. chain (course values) (assigned values a)))
 
   pub plain_good : (name : List ℕ) (found : Option Words) → ((variable : Words) → found ≡ Some variable → StandsBelow variable count) →
@@ -79,16 +83,16 @@ module _ (words : List ℕ) (count : ℕ) where
     write = λ scope loops sound small fits spared value d c course deep h.
         let slot = slot_known scope.locals name fits in
         let conduct = λ (values : Locals). chain (Course.ends (plain_aim name None)) (λ a. chain (course values) (assigned values a)) in
-        subst (λ o. Works words count false scope loops (plainly (λ locals. storing (plain_code None o) (value scope.locals)) scope) (0 + c + 1) conduct)
+        subst (λ o. Works words count false scope loops (plainly (λ locals. stored (plain_code None o) (value scope.locals)) scope) (0 + c + 1) conduct)
         (sym slot.1)
-        (works_in words count false scope loops (plainly (λ locals. storing (plain_code None (Some slot.0)) (value scope.locals)) scope) (c + 1) (0 + c + 1) conduct (omega arith)
+        (works_in words count false scope loops (plainly (λ locals. stored (plain_code None (Some slot.0)) (value scope.locals)) scope) (c + 1) (0 + c + 1) conduct (omega arith)
         (local_works words count scope loops name slot.0 (value scope.locals) d c course sound slot.1 spared small deep h));
   }
   plain_good name (Some variable) stands = let there = stands variable refl in record {
     read = λ scope small fits. word_gives words count scope name variable (let some = there.some in let within = there.within in omega (arith, some, within));
     write = λ scope loops sound small fits spared value d c course deep h.
         let conduct = λ (values : Locals). chain (Course.ends (plain_aim name (Some variable))) (λ a. chain (course values) (assigned values a)) in
-        works_in words count false scope loops (plainly (λ locals. storing (plain_code (Some variable) None) (value scope.locals)) scope) (c + 3) (0 + c + 3) conduct (omega arith)
+        works_in words count false scope loops (plainly (λ locals. stored (plain_code (Some variable) None) (value scope.locals)) scope) (c + 3) (0 + c + 3) conduct (omega arith)
         (word_works words count scope loops name variable (value scope.locals) d c course (let some = there.some in let within = there.within in omega (arith, some, within)) deep h);
   }
 

@@ -14,7 +14,7 @@ use Rattle.task_syntax.specs.declared.body.BodyId.TheVariants.{Task, Top, Bottom
 use Rattle.task_syntax.specs.Names.{tasks}
 use Rattle.word_code.specs.Code as words
 use Rattle.codegen.specs.Fit.{Fits}
-use Rattle.codegen.specs.Templates.{body_words}
+use Rattle.codegen.specs.Templates.{body_words, program_words}
 
 -- a body, with the names of what it takes
 pub record Body : Type 0 where
@@ -50,7 +50,7 @@ words_of_body program body = body_words program body.kind body.params body.state
 
 -- the code of a program
 abbrev pub program_code : Program → words.Bodies
-program_code program = record { tasks = length (tasks program); bodies = map (words_of_body program) (bodies program) }
+program_code program = record { tasks = length (tasks program); bodies = program_words program }
 
 -- each body of a program fits
 abbrev pub EachFits : Program → Type 0

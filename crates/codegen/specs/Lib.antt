@@ -4,6 +4,8 @@ pub mod CodeLaws
 pub mod Compiling
 pub mod Fit
 pub mod Listing
+pub mod ListingLaws
 pub mod Located
+pub mod ProgramLaws
 pub mod Scope
 pub mod Templates

@@ -3,6 +3,8 @@ use Rattle.std.specs.Prelude.{ℕ, List, [], ◌∷◌, ◌++◌, map, flat_map,
 use Rattle.std.specs.Option.{unwrap_or}
 use Rattle.task_syntax.specs.declared.name.Name.{Name}
 use Rattle.task_syntax.specs.declared.program.Program.{Program}
+use Rattle.task_syntax.specs.declared.program.Event.{Event}
+use Rattle.task_syntax.specs.declared.program.TaskDecl.{TaskDecl}
 use Rattle.task_syntax.specs.declared.expression.Expr.{Expr}
 use Rattle.task_syntax.specs.declared.expression.Place.{Place}
 use Rattle.task_syntax.specs.declared.expression.Expr.TheOpen.{Expr-F, Place-F}
@@ -12,7 +14,7 @@ use Rattle.task_syntax.specs.declared.statement.Stmt.TheOpen.{Stmt-F}
 use Rattle.task_syntax.specs.declared.statement.Stmt.TheFolds.{fold-Stmt}
 use Rattle.task_syntax.specs.declared.body.Kind.{Kind}
 use Rattle.task_syntax.specs.declared.body.Kind.TheVariants.{Task, Top, Bottom}
-use Rattle.task_syntax.specs.Names.{Words, words_of, count_of, task_of}
+use Rattle.task_syntax.specs.Names.{Words, words_of, count_of, task_of, tasks}
 use Rattle.word_code.specs.declared.instruction.Instr.{Instr}
 use Rattle.word_code.specs.declared.instruction.Instr.TheVariants as instr
 use Rattle.codegen.specs.Scope.{Local, Scope, slot_of, no_scope, declare, declare_all, behind_block}
@@ -35,10 +37,6 @@ abbrev pub item_code : List Instr → Option Words → PlaceCode
 item_code index (Some words) =
     record { index = index; load = instr.LoadX words.first (count_of words.length); store = instr.StoreX words.first (count_of words.length) }
 item_code index None = record { index = index; load = instr.LoadX 0 1; store = instr.StoreX 0 1 }
-
--- a value that is stored at a place
-abbrev pub storing : PlaceCode → List Instr → List Instr
-storing place value = place.index ++ (value ++ place.store ∷ [])
 
 -- a template for a scope: its code, and the scope behind it
 pub record Compiled : Type 0 where
@@ -117,6 +115,10 @@ module _ (program : Program) where
   abbrev pub expressions_code : List Expr → List Local → List Instr
   expressions_code es locals = flat_map (λ e. expression_code e locals) es
 
+  -- a value that is stored at a place
+  abbrev pub storing : PlaceCode → List Instr → List Instr
+  storing place value = place.index ++ (value ++ place.store ∷ [])
+
   -- one layer of a statement
   abbrev pub statement_code_step : Stmt-F Template → Template
   statement_code_step (Stmt-F.Let name e) = declaring name.text (expression_code e)
@@ -142,3 +144,14 @@ module _ (program : Program) where
   -- the words of a body
   abbrev pub body_words : Kind → List Name → List Stmt → List ℕ
   body_words kind params stmts = code.words_of (body_code kind params stmts)
+
+  abbrev pub task_words : TaskDecl → List ℕ
+  task_words task = body_words Task [] task.body
+
+  -- a top half has one parameter, the posting's argument
+  abbrev pub half_words : Event → List (List ℕ)
+  half_words event = body_words Top (event.argument ∷ []) event.top ∷ body_words Bottom event.params event.bottom ∷ []
+
+  -- the words of each body of the program: the tasks by number, then for each event its top half and its bottom half
+  abbrev pub program_words : List (List ℕ)
+  program_words = map task_words (tasks program) ++ flat_map half_words program.events

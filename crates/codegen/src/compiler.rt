@@ -4,9 +4,10 @@ ghost use Rattle.task_syntax.specs.declared.program.Event.{Event};
 ghost use Rattle.task_syntax.specs.declared.program.TaskDecl.{TaskDecl};
 ghost use Rattle.task_syntax.specs.declared.program.UnitDecl.{UnitDecl};
 ghost use Rattle.task_syntax.specs.Names.{tasks_of_unit};
-ghost use Rattle.codegen.specs.Bodies.{halves, program_code, task_body};
+ghost use Rattle.codegen.specs.Bodies.{program_code};
 ghost use Rattle.codegen.specs.Compiling.{with_bodies};
 ghost use Rattle.codegen.specs.Fit.{Fits};
+ghost use Rattle.codegen.specs.Templates.{body_words, half_words, task_words};
 
 use crate::emitter::body_words;
 use crate::laws::accepted_bodies_fit;
@@ -17,7 +18,7 @@ use task_check::Checked;
 use task_syntax::{Event, Kind, Name, Stmt, TaskDecl, UnitDecl};
 use word_code::Code;
 
-/// The code of a program: exactly the words of the templates, body by body.
+/// The code of a program: exactly the words of the templates, body by body. It is refused only where memory is.
 pub fn compile(alloc: Global, checked: &Checked) -> Result<Code, OutOfMemory>
     ensures { IfOk result (λ code. code ≡ program_code checked.now) }
 {
@@ -37,7 +38,7 @@ fn put_units(
     code: &mut Code,
 ) -> Result<(), OutOfMemory>
     requires { All (λ (unit : UnitDecl). All (λ (task : TaskDecl). Fits checked.now kind.Task [] task.body) (tasks_of_unit unit)) units.now }
-    ensures { OnOk result (code.new ≡ with_bodies checked.now (map task_body (flat_map tasks_of_unit units.now)) code.old) }
+    ensures { OnOk result (code.new ≡ with_bodies (map (task_words checked.now) (flat_map tasks_of_unit units.now)) code.old) }
 {
     for unit in units {
         put_tasks(alloc, checked, tasks_of(unit), code)?;
@@ -45,7 +46,7 @@ fn put_units(
     Ok(())
 }
 
-pub(crate) fn tasks_of(unit: &UnitDecl) -> &[TaskDecl]
+fn tasks_of(unit: &UnitDecl) -> &[TaskDecl]
     ensures { result.now ≡ tasks_of_unit unit.now }
 {
     match unit {
@@ -62,7 +63,7 @@ fn put_tasks(
     code: &mut Code,
 ) -> Result<(), OutOfMemory>
     requires { All (λ (task : TaskDecl). Fits checked.now kind.Task [] task.body) tasks.now }
-    ensures { OnOk result (code.new ≡ with_bodies checked.now (map task_body tasks.now) code.old) }
+    ensures { OnOk result (code.new ≡ with_bodies (map (task_words checked.now) tasks.now) code.old) }
 {
     for task in tasks {
         put_body(alloc, checked, Kind::Task, &[], task.body.as_slice(), code)?;
@@ -79,7 +80,7 @@ fn put_events(
 ) -> Result<(), OutOfMemory>
     requires tops { All (λ (event : Event). Fits checked.now kind.Top (event.argument ∷ []) event.top) events.now }
     requires bottoms { All (λ (event : Event). Fits checked.now kind.Bottom event.params event.bottom) events.now }
-    ensures { OnOk result (code.new ≡ with_bodies checked.now (flat_map halves events.now) code.old) }
+    ensures { OnOk result (code.new ≡ with_bodies (flat_map (half_words checked.now) events.now) code.old) }
 {
     for event in events {
         put_halves(alloc, checked, event, code)?;
@@ -96,26 +97,14 @@ fn put_halves(
 ) -> Result<(), OutOfMemory>
     requires top { Fits checked.now kind.Top (event.now.argument ∷ []) event.now.top }
     requires bottom { Fits checked.now kind.Bottom event.now.params event.now.bottom }
-    ensures { OnOk result (code.new ≡ with_bodies checked.now (halves event.now) code.old) }
+    ensures { OnOk result (code.new ≡ with_bodies (half_words checked.now event.now) code.old) }
 {
     let argument = slice::from_ref(&event.argument);
-    put_body(
-        alloc,
-        checked,
-        Kind::Top,
-        argument,
-        event.top.as_slice(),
-        code,
-    )?;
+    let top = event.top.as_slice();
+    put_body(alloc, checked, Kind::Top, argument, top, code)?;
     let params = event.params.as_slice();
-    put_body(
-        alloc,
-        checked,
-        Kind::Bottom,
-        params,
-        event.bottom.as_slice(),
-        code,
-    )
+    let bottom = event.bottom.as_slice();
+    put_body(alloc, checked, Kind::Bottom, params, bottom, code)
 }
 
 /// Adds a body.
@@ -128,7 +117,7 @@ fn put_body(
     code: &mut Code,
 ) -> Result<(), OutOfMemory>
     requires { Fits checked.now kind params.now body.now }
-    ensures { OnOk result (code.new ≡ with_bodies checked.now (record { kind = kind; params = params.now; statements = body.now } ∷ []) code.old) }
+    ensures { OnOk result (code.new ≡ with_bodies (body_words checked.now kind params.now body.now ∷ []) code.old) }
 {
     let words = body_words(alloc, checked, kind, params, body)?;
     code.push(&words)

@@ -1,6 +1,6 @@
-ghost use Rattle.std.specs.Prelude.{◌≡◌, ◌+◌, ◌≤◌, ◌++◌, ◌∷◌, [], OnOk};
+ghost use Rattle.std.specs.Prelude.{◌≡◌, ◌+◌, ◌≤◌, ◌++◌, ◌∷◌, OnOk};
 ghost use Rattle.word_code.specs.declared.instruction.Instr.TheVariants.{Jump, JumpZ, Push, SetL};
-ghost use Rattle.codegen.specs.Code.{head_code, size, turn_code};
+ghost use Rattle.codegen.specs.Code.{head_code, turn_code};
 
 use crate::segment::Segment;
 use coati_word::{Op, OutOfMemory};

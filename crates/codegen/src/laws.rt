@@ -8,6 +8,7 @@ ghost use Rattle.task_syntax.specs.Names.{tasks};
 ghost use Rattle.codegen.specs.Bodies.{EachFits};
 ghost use Rattle.codegen.specs.CodeLaws.{BodiesStandByNumber, CodeHasItsWords, FittingBodiesComputeTheirCourse, FittingCodeIsEncodable, FittingProgramsComputeTheirCourses};
 ghost use Rattle.codegen.specs.Fit.{Fits};
+ghost use Rattle.codegen.specs.ProgramLaws.{BottomHalvesComputeTheirCourse, TasksComputeTheirCourse, TopHalvesComputeTheirCourse};
 
 use word_code::laws::instructions_are_their_words;
 
@@ -45,3 +46,14 @@ pub fn accepted_bodies_fit()
         → All (λ event. Fits program Bottom event.params event.bottom) program.events }
     ensures each { (program : Program) → IsAccepted program → EachFits program }
 {}
+
+/// The code of an accepted program does what the program means: each body, found by its number, follows its course within
+/// its cost, and is never stuck.
+pub fn accepted_programs_compute_their_courses()
+    ensures tasks { TasksComputeTheirCourse }
+    ensures tops { TopHalvesComputeTheirCourse }
+    ensures bottoms { BottomHalvesComputeTheirCourse }
+{
+    accepted_bodies_fit();
+    fitting_bodies_compute_their_course();
+}

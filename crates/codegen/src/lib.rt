@@ -9,6 +9,7 @@ mod jumps;
 pub mod laws;
 mod line;
 mod lister;
+pub mod listing_laws;
 mod scope;
 mod segment;
 mod statement;

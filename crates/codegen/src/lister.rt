@@ -1,18 +1,18 @@
-ghost use Rattle.std.specs.Prelude.{◌≡◌, ◌+◌, ◌<◌, ◌≤◌, ◌++◌, IfOk, OnOk, IsSome, Some, flat_map, length, slice_get};
-ghost use Rattle.task_syntax.specs.Names.{tasks, tasks_of_unit};
+ghost use Rattle.std.specs.Prelude.{◌≡◌, ◌≤◌, ◌++◌, IfOk, OnOk, IsSome, Some, flat_map, length, slice_get};
+ghost use Rattle.task_syntax.specs.Names.{tasks};
 ghost use Rattle.codegen.specs.Bodies.{Body, body_of, program_code, words_of_body};
 ghost use Rattle.codegen.specs.Listing.{body_lines, event_lines, listing, task_lines};
 
-use crate::compiler::tasks_of;
 use crate::laws::{accepted_bodies_fit, bodies_stand_by_number};
 use crate::line::{put, put_field, put_lines};
 use coati_word::OutOfMemory;
 use std::alloc::Global;
 use task_check::Checked;
-use task_syntax::{BodyId, Event, Name, TaskDecl, UnitDecl};
+use task_syntax::{BodyId, Event, Name, TaskDecl};
 use word_code::Code;
 
 /// The listing of a program's code: for each body a line with its kind and its name, and then a line for each instruction.
+/// It is refused only where memory is.
 pub fn listing(alloc: Global, checked: &Checked, code: &Code) -> Result<Vec<u8>, OutOfMemory>
     requires { code.now ≡ program_code checked.now }
     ensures { IfOk result (λ text. text.items ≡ listing checked.now) }
@@ -27,27 +27,10 @@ fn put_tasks(out: &mut Vec<u8>, checked: &Checked, code: &Code) -> Result<(), Ou
     requires { code.now ≡ program_code checked.now }
     ensures { OnOk result (out.new.items ≡ out.old.items ++ flat_map (task_lines checked.now) (tasks checked.now)) }
 {
-    let units = checked.program().units.as_slice();
     for number in 0..checked.tasks() {
-        put_task(out, checked, code, number, task_at(units, number))?;
+        put_task(out, checked, code, number, checked.task(number))?;
     }
     Ok(())
-}
-
-/// The task of a number.
-fn task_at(units: &[UnitDecl], number: u16) -> &TaskDecl
-    requires { number < length (flat_map tasks_of_unit units.now) }
-    ensures { slice_get (flat_map tasks_of_unit units.now) number ≡ Some result.now }
-{
-    let mut left = usize::from(number);
-    for unit in units {
-        let tasks = tasks_of(unit);
-        if left < tasks.len() {
-            return &tasks[left];
-        }
-        left -= tasks.len();
-    }
-    unreachable!()
 }
 
 fn put_task(
@@ -69,10 +52,8 @@ fn put_events(out: &mut Vec<u8>, checked: &Checked, code: &Code) -> Result<(), O
     requires { code.now ≡ program_code checked.now }
     ensures { OnOk result (out.new.items ≡ out.old.items ++ flat_map (event_lines checked.now) checked.now.events) }
 {
-    let events = checked.program().events.as_slice();
     for number in 0..checked.events() {
-        let event = &events[usize::from(number)];
-        put_event(out, checked, code, number, event)?;
+        put_event(out, checked, code, number, checked.event(number))?;
     }
     Ok(())
 }

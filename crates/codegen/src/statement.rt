@@ -16,9 +16,8 @@ use task_check::Checked;
 use task_syntax::{Expr, Name, Place, Stmt};
 use word_code::Instr;
 
-/// Appends the code of a statement, and goes on in the scope behind it.
+/// Appends the code of a statement, and goes on in the scope behind it. In a checked program a `next` names a task.
 #[cycle(statement)]
-#[tactic(auto, using(crate::proofs::CodeSizes::emitting))]
 fn put_statement<'a>(
     alloc: Global,
     checked: &Checked,
@@ -49,7 +48,14 @@ fn put_statement<'a>(
         }
         Stmt::Repeat(name, count, block) => {
             let slot = scope.next();
-            let turn = turn_code(alloc, checked, scope, name, out.end + 11, block.as_slice())?;
+            let turn = loop_block_code(
+                alloc,
+                checked,
+                scope,
+                name,
+                out.end + 11,
+                block.as_slice(),
+            )?;
             put_loop(out, slot, *count, turn)
         }
         Stmt::Next(name) => out.push(Instr::Next(checked.task_of(&name.text).unwrap_or(0))),
@@ -60,7 +66,6 @@ fn put_statement<'a>(
 
 /// The code of a block at a word. Its locals leave with it.
 #[cycle(statement)]
-#[tactic(auto, using(crate::proofs::CodeSizes::emitting))]
 fn block_code<'a>(
     alloc: Global,
     checked: &Checked,
@@ -84,8 +89,7 @@ fn block_code<'a>(
 
 /// The code of a loop's block at a word. The loop's name leaves with its locals.
 #[cycle(statement)]
-#[tactic(auto, using(crate::proofs::CodeSizes::emitting))]
-fn turn_code<'a>(
+fn loop_block_code<'a>(
     alloc: Global,
     checked: &Checked,
     scope: &mut Scope<'a>,
@@ -110,7 +114,6 @@ fn turn_code<'a>(
 
 /// Appends the code of statements, and goes on in the scope behind them.
 #[cycle(statement)]
-#[tactic(auto, using(crate::proofs::CodeSizes::emitting))]
 pub(crate) fn put_statements<'a>(
     alloc: Global,
     checked: &Checked,
@@ -159,7 +162,7 @@ fn put_assignment(
     out: &mut Segment,
 ) -> Result<(), OutOfMemory>
     requires { out.old.end + access_words place.now + expression_words value.now ≤ 50000 }
-    ensures code { OnOk result (out.new.instrs.items ≡ out.old.instrs.items ++ storing (place_code checked.now place.now scope.now.locals) (expression_code checked.now value.now scope.now.locals)) }
+    ensures code { OnOk result (out.new.instrs.items ≡ out.old.instrs.items ++ storing checked.now (place_code checked.now place.now scope.now.locals) (expression_code checked.now value.now scope.now.locals)) }
     ensures end { OnOk result (out.new.end ≡ out.old.end + access_words place.now + expression_words value.now) }
 {
     match place {
@@ -169,7 +172,8 @@ fn put_assignment(
             out.push(access.store)
         }
         Place::Item(name, index) => {
-            put_expression(checked, scope, index.get(), out)?;
+            let index = index.get();
+            put_expression(checked, scope, index, out)?;
             put_expression(checked, scope, value, out)?;
             let access = item_access(checked, name);
             out.push(access.store)

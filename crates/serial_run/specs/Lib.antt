@@ -8,3 +8,4 @@ pub mod Ways
 pub mod Outcomes
 pub mod Touched
 pub mod Units
+pub mod Sample

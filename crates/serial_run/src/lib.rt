@@ -22,3 +22,6 @@ pub use outcome::{Outcome, TxRun};
 pub use readings::Readings;
 pub use store::SerialStore;
 pub use words::Words;
+
+#[cfg(test)]
+mod tests;

@@ -11,7 +11,6 @@ pub mod Params
 pub mod Reaching
 pub mod Rests
 pub mod Rising
-pub mod Samples
 pub mod Shapes
 pub mod Statements
 pub mod Steps

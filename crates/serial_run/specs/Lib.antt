@@ -8,4 +8,3 @@ pub mod Ways
 pub mod Outcomes
 pub mod Touched
 pub mod Units
-pub mod Sample

@@ -22,6 +22,3 @@ pub use outcome::{Outcome, TxRun};
 pub use readings::Readings;
 pub use store::SerialStore;
 pub use words::Words;
-
-#[cfg(test)]
-mod tests;

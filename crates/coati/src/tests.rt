@@ -1,3 +1,4 @@
+mod evaluator;
 mod listings;
 mod rules;
 

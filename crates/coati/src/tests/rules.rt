@@ -215,6 +215,16 @@ fn programs_and_bodies_have_limits(rt: HostRuntime) -> Result<(), Fail> {
             "rule 14 TooManyLocals at 11",
         ),
         (
+            32,
+            (
+                "nv n; event e(v) { top { ",
+                "let x",
+                " = v; ",
+                "give; } bottom() { } } task m { halt; }",
+            ),
+            "rule 14 TooManyLocals at 12",
+        ),
+        (
             8000,
             ("nv a[1]; task m { ", "a[", "] = 1; ", "halt; }"),
             "rule 16 TooLong 56001 at 14",
@@ -227,18 +237,39 @@ fn programs_and_bodies_have_limits(rt: HostRuntime) -> Result<(), Fail> {
     Ok(())
 }
 
-#[test]
-fn a_body_needs_few_operands(rt: HostRuntime) -> Result<(), Fail> {
-    let alloc = rt.alloc();
-    let mut source = String::from_str(alloc, "nv n; task m { n = ")?;
-    for _ in 0..32 {
+/// A sum of so many parentheses in each other, between two texts.
+fn nested(alloc: Global, depth: u32, front: &str, back: &str) -> Result<String, Fail> {
+    let mut source = String::from_str(alloc, front)?;
+    for _ in 0..depth {
         source.push_str("1 + (")?;
     }
     source.push_str("1")?;
-    for _ in 0..32 {
+    for _ in 0..depth {
         source.push_str(")")?;
     }
-    source.push_str("; halt; }")?;
-    assert!(rt; is_refused(alloc, &source, "rule 15 TooDeepStack at 11")?);
+    source.push_str(back)?;
+    Ok(source)
+}
+
+#[test]
+fn a_body_needs_few_operands(rt: HostRuntime) -> Result<(), Fail> {
+    let table = [
+        (
+            32,
+            "nv n; task m { n = ",
+            "; halt; }",
+            "rule 15 TooDeepStack at 11",
+        ),
+        (
+            31,
+            "nv a[1]; task m { a[0] = ",
+            "; halt; }",
+            "rule 15 TooDeepStack at 14",
+        ),
+    ];
+    for (depth, front, back, fault) in table {
+        let source = nested(rt.alloc(), depth, front, back)?;
+        assert!(rt; is_refused(rt.alloc(), &source, fault)?, "{source}");
+    }
     Ok(())
 }

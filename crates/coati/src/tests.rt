@@ -1,4 +1,3 @@
-mod evaluator;
 mod listings;
 mod rules;
 

@@ -28,6 +28,12 @@ found_in other (Some found) = found.0
 pub one_starts : (words : List ℕ) (first second : Instr) (s : State) → StartsAt words first s → StartsAt words second s → first ≡ second
 one_starts words first second s one other = ap (found_in first) (sym one ∙ other)
 
+-- what holds of the move of the instruction that starts in the machine's state
+pub for_the_move : (code : Bodies) (cpu : Cpu) (instr : Instr) (Fact : Move → Type 0) → StartsAt (body_words code cpu.body) instr (state_of cpu) →
+    Fact (move_of instr (state_of cpu)) → OfTheMove code cpu Fact
+for_the_move code cpu instr Fact starts fact other there =
+    subst (λ (i : Instr). Fact (move_of i (state_of cpu))) (one_starts (body_words code cpu.body) instr other (state_of cpu) starts there) fact
+
 module _ {V : Type 0} (words : V → List ℕ) (begun : V → ℕ → ℕ → ℕ → Type 0)
     (loaded : V → ℕ → V → Type 0) (stored : V → ℕ → ℕ → ℕ → V → Bool → Type 0)
     (code : List ℕ) (before after : Cpu) (old new : V) where

@@ -1,4 +1,4 @@
 pub mod Begun
-pub mod Examples
 pub mod OnCourse
+pub mod Reached
 pub mod Stacks

@@ -1,93 +1,222 @@
--- A machine stays on its course.
-use Rattle.std.proofs.Common.{◌≡◌, ℕ, List, Bool, length, sym, ap, subst, ◌∙◌, length-set}
-use Rattle.std.specs.Prelude.{Some, None, slice_index}
+-- A machine that is on a course can step, and its step goes along the course.
+use Rattle.std.proofs.Common.{◌≡◌, ◌≢◌, ℕ, ◌+◌, ◌-◌, ◌≤◌, ◌<◌, ◌==◌, List, [], ◌∷◌, Bool, true, false, length, refl, sym, ap, subst, ◌∙◌, arith, length-set, get_or-set_same, get_or-set_other}
+use Rattle.std.specs.Prelude.{Some, None, slice_index, slice_set, if◌then◌else◌}
+use Rattle.std.proofs.lemmas.Bool.Decides.{nat_tests}
 use Rattle.coati_word.specs.declared.ending.Ending.{Ending}
-use Rattle.task_syntax.specs.Course.{Course}
 use Rattle.task_syntax.specs.declared.body.BodyId.{BodyId}
+use Rattle.task_syntax.specs.Course.{Course, Store, put, Access, after, readings}
+use Rattle.word_code.specs.declared.instruction.Instr.{Instr}
+use Rattle.word_code.specs.declared.instruction.Instr.TheVariants.{Push, GetL, SetL, LoadV, StoreV, LoadX, StoreX, Jump, JumpZ, Next, Halt, Done, Give, Two, One}
 use Rattle.word_code.specs.Code.{Bodies, body_words}
-use Rattle.word_code.specs.Machine.{State, Move, move_of, steps}
+use Rattle.word_code.specs.Machine.{State, Move, move_of, steps, StartsAt, IsWithin}
 use Rattle.word_code.specs.FollowingLaws.{FollowsToTheEnd, FollowsAfter, GoesOn, GoesOnFrom, FollowingGoesOn}
 use Rattle.word_cpu.specs.declared.cpu.Cpu.{Cpu}
 use Rattle.word_cpu.specs.declared.turn.Turn.{Turn}
 use Rattle.word_cpu.specs.declared.turn.Turn.TheVariants.{Went, Storing, Ended}
-use Rattle.word_cpu.specs.Turning.{CanStep, Makes, IsBegun, OfTheMove, state_of}
-use Rattle.word_cpu.specs.OnCourse.{IsOnCourse, UnlessEnded}
+use Rattle.word_cpu.specs.Turning.{CanStep, IsBegun, IsStep, Makes, state_of}
+use Rattle.word_cpu.specs.OnCourse.{IsOnCourse, GoesAlong, LeadsAlong, WentAlong, done_by, read_by}
+use Rattle.word_cpu.proofs.Begun.{for_the_move, not_above_0}
 
-pub can_step : FollowingGoesOn → (code : Bodies) (cpu : Cpu) (count : ℕ) (begun : ℕ → ℕ → ℕ → Type 0) → IsOnCourse code cpu count begun → CanStep code cpu count
-can_step law code cpu count begun on =
-    let here = law (body_words code cpu.body) count on.limit (state_of cpu) on.course on.follows in
-    (here.instr, here.runs)
+-- the machine steps of a move
+abbrev steps_of : Move → ℕ
+steps_of (Move.goes next) = 1
+steps_of (Move.loads word next) = 1
+steps_of (Move.stores word value next) = 3
+steps_of (Move.ends ending) = 1
+
+steps_are : (instr : Instr) (s : State) → steps instr ≡ steps_of (move_of instr s)
+steps_are (Push k) s = refl
+steps_are (GetL i) s = refl
+steps_are (SetL i) s = refl
+steps_are (LoadV a) s = refl
+steps_are (StoreV a) s = refl
+steps_are (LoadX a n) s = refl
+steps_are (StoreX a n) s = refl
+steps_are (Jump t) s = refl
+steps_are (JumpZ t) s = refl
+steps_are (Next t) s = refl
+steps_are Halt s = refl
+steps_are Done s = refl
+steps_are (Give n) s = refl
+steps_are (Two op) s = refl
+steps_are (One op) s = refl
+
+-- nothing was done
+leads_nowhere : (course : Course Ending) (old new : List ℕ) → new ≡ old → LeadsAlong course (slice_index old) [] course (slice_index new)
+leads_nowhere course old new same =
+    subst (λ (ws : List ℕ). LeadsAlong course (slice_index old) [] course (slice_index ws)) (sym same)
+    (record { accesses_are = refl; answer_is = refl; store_is = refl })
+
+-- a word was read
+leads_behind_a_read : (word : ℕ) (go_on : ℕ → Course Ending) (course : Course Ending) (old new : List ℕ) → course ≡ Course.reads word go_on → new ≡ old →
+    LeadsAlong course (slice_index old) (Access.read word (slice_index old word) ∷ []) (go_on (slice_index old word)) (slice_index new)
+leads_behind_a_read word go_on course old new is same =
+    let value = slice_index old word in
+    subst (λ (ws : List ℕ). LeadsAlong course (slice_index old) (Access.read word value ∷ []) (go_on value) (slice_index ws)) (sym same)
+    (subst (λ (c : Course Ending). LeadsAlong c (slice_index old) (Access.read word value ∷ []) (go_on value) (slice_index old)) (sym is)
+    (record { accesses_are = refl; answer_is = refl; store_is = refl }))
+
+pointwise : (one other : Store) → ((word : ℕ) → one word ≡ other word) → one ≡ other
+pointwise one other same = λ i. λ word. same word i
+
+-- a list with one word changed is the store with it changed
+set_at : (words : List ℕ) (word value other : ℕ) (is : Bool) → other == word ≡ is → word < length words →
+    slice_index (slice_set words word value) other ≡ (if is then value else slice_index words other)
+set_at words word value other true is inside =
+    let same : other ≡ word = grind (arith, nat_tests) in
+    ap (slice_index (slice_set words word value)) same ∙ get_or-set_same words word value 0 inside
+set_at words word value other false is inside = 
+    let differs : other ≢ word = grind (arith, nat_tests) in
+    get_or-set_other words word other value 0 differs
+
+set_is_put : (words : List ℕ) (word value : ℕ) → word < length words → slice_index (slice_set words word value) ≡ put word value (slice_index words)
+set_is_put words word value inside =
+    pointwise (slice_index (slice_set words word value)) (put word value (slice_index words)) (λ other. set_at words word value other (other == word) refl inside)
+
+-- a word was written
+leads_behind_a_write : (word value : ℕ) (rest course : Course Ending) (old new : List ℕ) → word < length old → course ≡ Course.writes word value rest →
+    new ≡ slice_set old word value → LeadsAlong course (slice_index old) (Access.wrote word value ∷ []) rest (slice_index new)
+leads_behind_a_write word value rest course old new inside is same =
+    let store : slice_index new ≡ put word value (slice_index old) = ap slice_index same ∙ set_is_put old word value inside in
+    subst (λ (s : Store). LeadsAlong course (slice_index old) (Access.wrote word value ∷ []) rest s) (sym store)
+    (subst (λ (c : Course Ending). LeadsAlong c (slice_index old) (Access.wrote word value ∷ []) rest (put word value (slice_index old))) (sym is)
+    (record { accesses_are = refl; answer_is = refl; store_is = refl }))
 
 module _ {V : Type 0} (words : V → List ℕ) (begun : V → ℕ → ℕ → ℕ → Type 0)
-    (loaded : V → ℕ → V → Type 0) (stored : V → ℕ → ℕ → ℕ → V → Bool → Type 0)
-    (code : Bodies) (before after : Cpu) (old new : V) where
-  -- what the code of the body has from a state on
-  abbrev FollowsFrom : ℕ → State → Course Ending → Type 0
-  FollowsFrom left s course = FollowsToTheEnd (body_words code before.body) (length (words old)) left s course
+    (loaded : V → ℕ → V → Type 0) (stored : V → ℕ → ℕ → ℕ → V → Bool → Type 0) where
+  pub can_step : FollowingGoesOn → (code : Bodies) (cpu : Cpu) (view : V) (left : ℕ) (course : Course Ending) →
+      IsOnCourse code cpu (length (words view)) left (begun view) course → CanStep code cpu (length (words view))
+  can_step law code cpu view left course on =
+      let here = law (body_words code cpu.body) (length (words view)) on.limit (state_of cpu) course on.follows in
+      (here.instr, here.runs)
 
-  -- the course after a step, and as many words as before
-  abbrev Kept : Turn → Type 0
-  Kept turn =
-      UnlessEnded turn (((left : ℕ) × (more : Course Ending) × FollowsFrom left (state_of after) more) × (length (words new) ≡ length (words old)))
+  module _ (before after : Cpu) (old new : V) where
+    -- what a step read is what it answers
+    pub reads_are : (turn : Turn) (move : Move) → Makes words begun loaded stored before after old new turn move → readings (done_by turn move) ≡ read_by turn
+    reads_are turn (Move.goes next) made = ap read_by (sym made.answer)
+    reads_are turn (Move.loads word next) made =
+        subst (λ (t : Turn). readings (done_by t (Move.loads word next)) ≡ read_by t) (sym made.answer) refl
+    reads_are (Went None) (Move.stores word value next) made = refl
+    reads_are (Went (Some reading)) (Move.stores word value next) made = absurd made
+    reads_are Storing (Move.stores word value next) made = refl
+    reads_are (Ended ending) (Move.stores word value next) made = absurd made
+    reads_are turn (Move.ends ending) made = ap read_by (sym made.answer)
 
-  at_state : (s : State) (spent limit : ℕ) (course : Course Ending) → FollowsAfter (body_words code before.body) (length (words old)) spent limit s course →
-      state_of after ≡ s → (left : ℕ) × (more : Course Ending) × FollowsFrom left (state_of after) more
-  at_state s spent limit course follows is = (follows.0, course, subst (λ (t : State). FollowsFrom follows.0 t course) (sym is) follows.2)
+  module _ (code : Bodies) (before after : Cpu) (old new : V) where
+    -- what the code of the body has from a state on
+    abbrev FollowsFrom : ℕ → State → Course Ending → Type 0
+    FollowsFrom limit s course = FollowsToTheEnd (body_words code before.body) (length (words old)) limit s course
 
-  kept : (spent limit : ℕ) (course : Course Ending) (turn : Turn) (move : Move) → FollowsFrom limit (state_of before) course →
-      GoesOn (body_words code before.body) (length (words old)) spent limit move course →
-      Makes words begun loaded stored before after old new turn move → Kept turn
-  kept spent limit course turn (Move.goes next) follows goes_on made =
-      subst Kept (sym made.answer) (at_state next spent limit course goes_on made.state, ap (λ (v : V). length (words v)) made.view)
-  kept spent limit course turn (Move.loads word next) follows goes_on made =
-      let value = slice_index (words old) word in
-      subst Kept (sym made.answer) (at_state (next value) spent limit (goes_on.0 value) (goes_on.2 value) made.state, ap length made.words_stay)
-  kept spent limit course (Went None) (Move.stores word value next) follows goes_on made =
-      (at_state next spent limit goes_on.0 goes_on.2 made.state, ap length made.words_are ∙ length-set (words old) word value)
-  kept spent limit course (Went (Some reading)) (Move.stores word value next) follows goes_on made = absurd made
-  kept spent limit course Storing (Move.stores word value next) follows goes_on made =
-      ((limit, course, subst (λ (t : State). FollowsFrom limit t course) (sym made.state) follows), ap length made.words_stay)
-  kept spent limit course (Ended ending) (Move.stores word value next) follows goes_on made = absurd made
-  kept spent limit course turn (Move.ends ending) follows goes_on made = subst Kept (sym made.answer) tt
+    -- what a step leaves that made a move, or a part of it
+    record Leaves (left : ℕ) (course : Course Ending) (turn : Turn) (move : Move) : Type 0 where
+      rest : Course Ending
+      remaining : ℕ
+      limit : ℕ
+      in_time : remaining + 1 ≤ left
+      follows : FollowsFrom limit (state_of after) rest
+      fits : limit ≤ remaining + after.part
+      few_parts : after.part < 3
+      leads : LeadsAlong course (slice_index (words old)) (done_by turn move) rest (slice_index (words new))
+      count : length (words new) ≡ length (words old)
 
-  stays : ((left : ℕ) × (more : Course Ending) × FollowsFrom left (state_of after) more) → length (words new) ≡ length (words old) → after.body ≡ before.body →
-      OfTheMove code after (IsBegun (begun new) after.part) → IsOnCourse code after (length (words new)) (begun new)
-  stays here same same_body is_begun =
-      record {
-        limit = here.0;
-        course = here.1;
-        follows =
-            subst (λ (b : BodyId). FollowsToTheEnd (body_words code b) (length (words new)) here.0 (state_of after) here.1) (sym same_body)
-            (subst (λ (n : ℕ). FollowsToTheEnd (body_words code before.body) n here.0 (state_of after) here.1) (sym same) here.2);
-        is_begun = is_begun;
-      }
+    -- it leaves this, or it ended the body
+    abbrev MakesItsWay : ℕ → Course Ending → Turn → Move → Type 0
+    MakesItsWay left course (Went reading) move = Leaves left course (Went reading) move
+    MakesItsWay left course Storing move = Leaves left course Storing move
+    MakesItsWay left course (Ended ending) move = (course ≡ Course.ends ending) × (new ≡ old)
 
-  on_course : (turn : Turn) → Kept turn → after.body ≡ before.body → OfTheMove code after (IsBegun (begun new) after.part) →
-      UnlessEnded turn (IsOnCourse code after (length (words new)) (begun new))
-  on_course (Went reading) here same_body is_begun = stays here.0 here.1 same_body is_begun
-  on_course Storing here same_body is_begun = stays here.0 here.1 same_body is_begun
-  on_course (Ended ending) here same_body is_begun = tt
+    -- a step that went on to a state
+    leaves : (spent limit left : ℕ) (course rest : Course Ending) (turn : Turn) (move : Move) (next : State) →
+        FollowsAfter (body_words code before.body) (length (words old)) spent limit next rest → before.part < spent → limit ≤ left + before.part →
+        state_of after ≡ next → after.part ≡ 0 → LeadsAlong course (slice_index (words old)) (done_by turn move) rest (slice_index (words new)) →
+        length (words new) ≡ length (words old) → Leaves left course turn move
+    leaves spent limit left course rest turn move next follows soon fits is part leads count = record {
+      rest = rest;
+      remaining = follows.0;
+      limit = follows.0;
+      in_time = let time = follows.1 in omega (arith, time, soon, fits);
+      follows = subst (λ (s : State). FollowsFrom follows.0 s rest) (sym is) follows.2;
+      fits = omega arith;
+      few_parts = omega (arith, part);
+      leads = leads;
+      count = count;
+    }
 
-  same_length : (turn : Turn) (move : Move) → Makes words begun loaded stored before after old new turn move → length (words new) ≡ length (words old)
-  same_length turn (Move.goes next) made = ap (λ (v : V). length (words v)) made.view
-  same_length turn (Move.loads word next) made = ap length made.words_stay
-  same_length (Went None) (Move.stores word value next) made = ap length made.words_are ∙ length-set (words old) word value
-  same_length (Went (Some reading)) (Move.stores word value next) made = absurd made
-  same_length Storing (Move.stores word value next) made = ap length made.words_stay
-  same_length (Ended ending) (Move.stores word value next) made = absurd made
-  same_length turn (Move.ends ending) made = ap (λ (v : V). length (words v)) made.view
+    makes_its_way : (limit left : ℕ) (course : Course Ending) (turn : Turn) (move : Move) → limit ≤ left + before.part → before.part < 3 →
+        FollowsFrom limit (state_of before) course → IsWithin (length (words old)) move →
+        GoesOn (body_words code before.body) (length (words old)) (steps_of move) limit move course → IsBegun (begun old) before.part move →
+        Makes words begun loaded stored before after old new turn move → MakesItsWay left course turn move
+    makes_its_way limit left course turn (Move.goes next) fits few follows within goes_on is_begun made =
+        let none : before.part ≡ 0 = not_above_0 is_begun in
+        let here : Leaves left course (Went None) (Move.goes next) =
+        leaves 1 limit left course course (Went None) (Move.goes next) next goes_on (omega (arith, none)) fits made.state made.part
+        (leads_nowhere course (words old) (words new) (ap words made.view)) (ap (λ (v : V). length (words v)) made.view) in
+        subst (λ (t : Turn). MakesItsWay left course t (Move.goes next)) (sym made.answer) here
+    makes_its_way limit left course turn (Move.loads word next) fits few follows within goes_on is_begun made =
+        let none : before.part ≡ 0 = not_above_0 is_begun in
+        let value = slice_index (words old) word in
+        let read : Turn = Went (Some (record { word = word; value = value })) in
+        let here : Leaves left course read (Move.loads word next) =
+        leaves 1 limit left course (goes_on.0 value) read (Move.loads word next) (next value) (goes_on.2 value) (omega (arith, none)) fits made.state made.part
+        (leads_behind_a_read word goes_on.0 course (words old) (words new) goes_on.1 made.words_stay) (ap length made.words_stay) in
+        subst (λ (t : Turn). MakesItsWay left course t (Move.loads word next)) (sym made.answer) here
+    makes_its_way limit left course (Went None) (Move.stores word value next) fits few follows within goes_on is_begun made =
+        leaves 3 limit left course goes_on.0 (Went None) (Move.stores word value next) next goes_on.2 few fits made.state made.part
+        (leads_behind_a_write word value goes_on.0 course (words old) (words new) within goes_on.1 made.words_are)
+        (ap length made.words_are ∙ length-set (words old) word value)
+    makes_its_way limit left course (Went (Some reading)) (Move.stores word value next) fits few follows within goes_on is_begun made = absurd made
+    makes_its_way limit left course Storing (Move.stores word value next) fits few follows within goes_on is_begun made =
+        let time = goes_on.2.1 in
+        record {
+          rest = course;
+          remaining = left - 1;
+          limit = limit;
+          in_time = omega (arith, time, fits, made.few);
+          follows = subst (λ (s : State). FollowsFrom limit s course) (sym made.state) follows;
+          fits = omega (arith, time, fits, made.few, made.part);
+          few_parts = omega (arith, made.few, made.part);
+          leads = leads_nowhere course (words old) (words new) made.words_stay;
+          count = ap length made.words_stay;
+        }
+    makes_its_way limit left course (Ended ending) (Move.stores word value next) fits few follows within goes_on is_begun made = absurd made
+    makes_its_way limit left course turn (Move.ends ending) fits few follows within goes_on is_begun made =
+        subst (λ (t : Turn). MakesItsWay left course t (Move.ends ending)) (sym made.answer) (goes_on, made.view)
 
-  module _ (law : FollowingGoesOn) (turn : Turn) (on : IsOnCourse code before (length (words old)) (begun old))
-      (makes : OfTheMove code before (Makes words begun loaded stored before after old new turn)) where
-    here : GoesOnFrom (body_words code before.body) (length (words old)) on.limit (state_of before) on.course
-    here = law (body_words code before.body) (length (words old)) on.limit (state_of before) on.course on.follows
+  went_along : (code : Bodies) (before after : Cpu) (old new : V) (turn : Turn) (left : ℕ) (course : Course Ending) (instr : Instr) →
+      StartsAt (body_words code before.body) instr (state_of before) → IsStep words begun loaded stored code before after old new turn →
+      Leaves code before after old new left course turn (move_of instr (state_of before)) → WentAlong words begun loaded stored code left course before after old new turn
+  went_along code before after old new turn left course instr starts step here = record {
+    rest = here.rest;
+    remaining = here.remaining;
+    in_time = here.in_time;
+    on_course = record {
+      limit = here.limit;
+      follows =
+          subst (λ (b : BodyId). FollowsToTheEnd (body_words code b) (length (words new)) here.limit (state_of after) here.rest) (sym step.body)
+          (subst (λ (n : ℕ). FollowsToTheEnd (body_words code before.body) n here.limit (state_of after) here.rest) (sym here.count) here.follows);
+      in_time = here.fits;
+      few_parts = here.few_parts;
+      is_begun = step.is_begun;
+    };
+    leads = for_the_move code before instr (λ move. LeadsAlong course (slice_index (words old)) (done_by turn move) here.rest (slice_index (words new))) starts here.leads;
+    count = here.count;
+  }
 
-    pub stays_on_course : after.body ≡ before.body → OfTheMove code after (IsBegun (begun new) after.part) →
-        UnlessEnded turn (IsOnCourse code after (length (words new)) (begun new))
-    stays_on_course same_body is_begun =
-        on_course turn
-        (kept (steps here.instr) on.limit on.course turn (move_of here.instr (state_of before)) on.follows here.goes_on (makes here.instr here.runs.starts))
-        same_body is_begun
+  goes_along : (code : Bodies) (before after : Cpu) (old new : V) (turn : Turn) (left : ℕ) (course : Course Ending) (instr : Instr) →
+      StartsAt (body_words code before.body) instr (state_of before) → IsStep words begun loaded stored code before after old new turn →
+      MakesItsWay code before after old new left course turn (move_of instr (state_of before)) →
+      GoesAlong words begun loaded stored code left course before after old new turn
+  goes_along code before after old new (Went reading) left course instr starts step here = went_along code before after old new (Went reading) left course instr starts step here
+  goes_along code before after old new Storing left course instr starts step here = went_along code before after old new Storing left course instr starts step here
+  goes_along code before after old new (Ended ending) left course instr starts step here = here
 
-    pub keeps_count : length (words new) ≡ length (words old)
-    keeps_count = same_length turn (move_of here.instr (state_of before)) (makes here.instr here.runs.starts)
+  pub steps_along : FollowingGoesOn → (code : Bodies) (before after : Cpu) (old new : V) (turn : Turn) (left : ℕ) (course : Course Ending) →
+      IsOnCourse code before (length (words old)) left (begun old) course → IsStep words begun loaded stored code before after old new turn →
+      GoesAlong words begun loaded stored code left course before after old new turn
+  steps_along law code before after old new turn left course on step =
+      let here : GoesOnFrom (body_words code before.body) (length (words old)) on.limit (state_of before) course =
+      law (body_words code before.body) (length (words old)) on.limit (state_of before) course on.follows in
+      let goes_on = subst (λ (n : ℕ). GoesOn (body_words code before.body) (length (words old)) n on.limit (move_of here.instr (state_of before)) course) (steps_are here.instr (state_of before)) here.goes_on in
+      goes_along code before after old new turn left course here.instr here.runs.starts step
+      (makes_its_way code before after old new on.limit left course turn (move_of here.instr (state_of before)) on.in_time on.few_parts on.follows
+      here.runs.can_run.word goes_on (on.is_begun here.instr here.runs.starts) (step.makes here.instr here.runs.starts))

@@ -1,4 +1,3 @@
-pub mod Example
-pub mod Noted
 pub mod OnCourse
+pub mod Reached
 pub mod Turning

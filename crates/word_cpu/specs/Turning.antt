@@ -102,3 +102,10 @@ module _ {V : Type 0} (words : V → List ℕ) (begun : V → ℕ → ℕ → �
       moved word_list move (words old) ≡ Some (record { state = state_of after; memory = words new })
   StepsOnWords before after old new Storing move = (state_of after ≡ state_of before) × (words new ≡ words old)
   StepsOnWords before after old new (Ended ending) move = moved word_list move (words old) ≡ None
+
+  -- a machine step: it makes the move of the instruction that starts in the machine's state, or a part of it; and behind it
+  -- the parts that are made of a store are those of the move that comes next
+  pub record IsStep (code : Bodies) (before after : Cpu) (old new : V) (turn : Turn) : Type 0 where
+    pub body : after.body ≡ before.body
+    pub makes : OfTheMove code before (Makes before after old new turn)
+    pub is_begun : OfTheMove code after (IsBegun (begun new) after.part)

@@ -3,8 +3,9 @@ ghost use Rattle.std.specs.Bool.{OnFalse, OnTrue};
 ghost use Rattle.word_code.specs.declared.instruction.Instr.{Instr as Instruction};
 ghost use Rattle.word_code.specs.Code.{HasBody};
 ghost use Rattle.word_code.specs.Instruction.{IsEncodable, decoded, width};
-ghost use Rattle.word_code.specs.Machine.{CanRun, Move, behind, below, move_of, start, top};
-ghost use Rattle.word_cpu.specs.Turning.{CanStep, HasLoaded, HasStored, IsBegun, IsGoing, IsStoring, Makes, OfTheMove, StepsOnWords, StoresPart, state_of};
+ghost use Rattle.word_code.specs.Machine.{CanRun, Move, behind, below, move_of, top};
+ghost use Rattle.word_cpu.specs.Reached.{IsAtStart};
+ghost use Rattle.word_cpu.specs.Turning.{CanStep, HasLoaded, HasStored, IsBegun, IsGoing, IsStep, IsStoring, Makes, OfTheMove, StepsOnWords, StoresPart, state_of};
 
 use crate::locals::Locals;
 use crate::operands::Operands;
@@ -29,9 +30,7 @@ impl Cpu {
     pub fn start(_code: &Code, body: BodyId, params: &[u16]) -> Cpu
         requires exists { HasBody _code.now body }
         requires few { length params.now ≤ 4 }
-        ensures body { result.body ≡ body }
-        ensures state { state_of result ≡ start params.now }
-        ensures part { result.part ≡ 0 }
+        ensures { IsAtStart body params.now result }
     {
         Cpu {
             body,
@@ -50,13 +49,9 @@ impl Cpu {
         requires few { length (V.words view.old) ≤ 2 ^ 16 }
         requires runs { CanStep code.now self.old (length (V.words view.old)) }
         requires begun { OfTheMove code.now self.old (IsBegun (V.begun view.old) self.old.part) }
-        ensures body { self.new.body ≡ self.old.body }
-        ensures makes { OfTheMove code.now self.old
-            (Makes V.words V.begun V.loaded V.stored self.old self.new view.old view.new result) }
-        ensures steps { OfTheMove code.now self.old
+        ensures step { IsStep V.words V.begun V.loaded V.stored code.now self.old self.new view.old view.new result }
+        ensures words { OfTheMove code.now self.old
             (StepsOnWords V.words V.begun V.loaded V.stored self.old self.new view.old view.new result) }
-        // So the next step may be made where an instruction can run.
-        ensures begun { OfTheMove code.now self.new (IsBegun (V.begun view.new) self.new.part) }
     {
         let instr = instruction_at(code.body(self.body), self.place);
         self.act(instr, view)

@@ -2,6 +2,7 @@
 #![tactic(auto)]
 
 mod cpu;
+pub mod laws;
 mod locals;
 mod operands;
 mod turn;
@@ -10,6 +11,3 @@ mod view;
 pub use cpu::Cpu;
 pub use turn::Turn;
 pub use view::View;
-
-#[cfg(test)]
-mod tests;

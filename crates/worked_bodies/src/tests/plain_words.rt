@@ -2,7 +2,7 @@
 
 ghost use Rattle.std.specs.Prelude.{◌≡◌, true, refl, slice_set};
 
-use crate::View;
+use word_cpu::View;
 
 #[derive(Drop)]
 pub struct PlainWords {

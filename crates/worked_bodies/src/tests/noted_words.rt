@@ -1,9 +1,9 @@
 //! Words of which a store takes three steps: its word is noted, then its value, and then it is made. Loads are counted.
 
 ghost use Rattle.std.specs.Prelude.{◌≡◌, ◌+◌, min};
-ghost use Rattle.word_cpu.specs.Noted.{IsNoted};
+ghost use Rattle.worked_bodies.specs.Noted.{IsNoted};
 
-use crate::View;
+use word_cpu::View;
 
 #[derive(Drop)]
 pub struct NotedWords {

@@ -1,24 +1,12 @@
-use coati_top::spelled_programs_are_well_formed;
+use super::accepted;
 use coati_word::{Ending, Reading};
 use serial_run::{SerialStore, TxRun};
-use std::alloc::Global;
-use std::process::Abort;
 use std::test::Fail;
-use task_check::{Checked, check};
-use task_lex::lex;
-use task_parse::parse;
 
+/// A program with two words, two tasks, a transaction and an event.
 const SOURCE: &[u8] = b"nv a = 1; nv b = 0; buffer 1; \
     event e(v) { top { give v + 1; } bottom(x) { b = a + x; } } \
     transaction t { task p { a = a + 1; next q; } task q { a = a * 10; halt; } }";
-
-/// The program of the source, with two words, two tasks, a transaction and an event.
-fn accepted(rt: &impl Abort, alloc: Global) -> Result<Checked, Fail> {
-    spelled_programs_are_well_formed();
-    let tokens = lex(alloc, SOURCE)?;
-    assert!(rt; tokens.len() < 1000);
-    Ok(check(alloc, parse(alloc, SOURCE, &tokens)?)?)
-}
 
 const A_IS_1: Reading = Reading { word: 0, value: 1 };
 
@@ -26,7 +14,7 @@ const A_IS_2: Reading = Reading { word: 0, value: 2 };
 
 #[test]
 fn a_transaction_is_whole_after_its_two_tasks(rt: HostRuntime) -> Result<(), Fail> {
-    let checked = accepted(&rt, rt.alloc())?;
+    let checked = accepted(&rt, rt.alloc(), SOURCE)?;
     assert!(rt; checked.words() == 2 && checked.transactions() == 1);
     for (tasks, is_whole) in [(0, false), (1, false), (2, true), (3, false)] {
         let opening = SerialStore::opening(rt.alloc(), &checked)?;
@@ -45,7 +33,7 @@ fn a_transaction_is_whole_after_its_two_tasks(rt: HostRuntime) -> Result<(), Fai
 
 #[test]
 fn tasks_and_events_change_the_store(rt: HostRuntime) -> Result<(), Fail> {
-    let checked = accepted(&rt, rt.alloc())?;
+    let checked = accepted(&rt, rt.alloc(), SOURCE)?;
     assert!(rt; checked.words() == 2 && checked.tasks() == 2 && checked.events() == 1);
     let opening = SerialStore::opening(rt.alloc(), &checked)?;
     let (store, outcome) = opening.run_task(&checked, 0)?;
@@ -61,7 +49,7 @@ fn tasks_and_events_change_the_store(rt: HostRuntime) -> Result<(), Fail> {
 
 #[test]
 fn words_are_told_once(rt: HostRuntime) -> Result<(), Fail> {
-    let checked = accepted(&rt, rt.alloc())?;
+    let checked = accepted(&rt, rt.alloc(), SOURCE)?;
     assert!(rt; checked.tasks() == 2 && checked.events() == 1);
     let opening = SerialStore::opening(rt.alloc(), &checked)?;
     let written = opening.event_writes(&checked, 0, 4)?;

@@ -1,0 +1,38 @@
+-- A machine that goes on, and what it tells in the end.
+use Rattle.std.proofs.Common.{◌≡◌, ℕ, ◌+◌, List, ◌++◌, Bool, length, refl, sym, ap, subst, ◌∙◌}
+use Rattle.std.specs.Prelude.{slice_index}
+use Rattle.coati_word.specs.declared.ending.Ending.{Ending}
+use Rattle.coati_word.specs.declared.reading.Reading.{Reading}
+use Rattle.task_syntax.specs.declared.body.BodyId.{BodyId}
+use Rattle.task_syntax.specs.Course.{Course, Access, accesses, after, answer, readings}
+use Rattle.word_code.specs.Code.{Bodies}
+use Rattle.word_code.specs.Machine.{move_of}
+use Rattle.word_cpu.specs.declared.cpu.Cpu.{Cpu}
+use Rattle.word_cpu.specs.declared.turn.Turn.{Turn}
+use Rattle.word_cpu.specs.OnCourse.{done_by, read_by}
+use Rattle.word_cpu.specs.Reached.{Comes, HasDone, IsUnderWay}
+use Rattle.word_cpu.specs.Turning.{CanStep, IsStep, state_of}
+use Rattle.worked_bodies.specs.Bodies.{TellsCourse}
+
+-- one step more
+pub comes_on : {V : Type 0} (words : V → List ℕ) (begun : V → ℕ → ℕ → ℕ → Type 0)
+    (loaded : V → ℕ → V → Type 0) (stored : V → ℕ → ℕ → ℕ → V → Bool → Type 0)
+    (code : Bodies) (body : BodyId) (params : List ℕ) (view : V) (spent : ℕ) (read all : List Reading) (before after : Cpu) (old new : V) (turn : Turn) →
+    ((done : List Access) × Comes words begun loaded stored code body params view spent done read before old) →
+    CanStep code before (length (words old)) → IsStep words begun loaded stored code before after old new turn → IsUnderWay turn → all ≡ read ++ read_by turn →
+    (done : List Access) × Comes words begun loaded stored code body params view (spent + 1) done all after new
+comes_on words begun loaded stored code body params view spent read all before after old new turn come can step goes_on is = (
+  come.0 ++ done_by turn (move_of can.0 (state_of before)),
+  subst (λ (r : List Reading). Comes words begun loaded stored code body params view (spent + 1) (come.0 ++ done_by turn (move_of can.0 (state_of before))) r after new) (sym is)
+      (Comes.steps spent come.0 read before after old new turn can.0 come.1 can.1.starts step goes_on),
+)
+
+-- what was done is what the course does
+pub tells_in_the_end : (course : Course Ending) (old new : List ℕ) (done : List Access) (read : List Reading) (ending : Ending) →
+    HasDone course old done read ending new → TellsCourse course old new read ending
+tells_in_the_end course old new done read ending has = record {
+  store_after = has.words_are ∙ ap (λ (all : List Access). after all (slice_index old)) has.accesses_are;
+  words = has.count;
+  readings_told = has.readings_are ∙ ap readings has.accesses_are;
+  ending_told = has.ending_is;
+}

@@ -1,0 +1,8 @@
+use Rattle.std.proofs.Common.{List}
+use Rattle.task_syntax.specs.Course.{Access}
+use Rattle.word_cpu.specs.Reached.{Comes}
+use Rattle.worked_bodies.proofs.tests.machine.run_within.Given as goal
+
+abbrev pub invariant-loop-spent : goal.invariant-loop-spent
+invariant-loop-spent g l =
+    (done : List Access) × Comes g.V.View.words g.V.View.begun g.V.View.loaded g.V.View.stored l.code l.fn.body l.params l.fn.view l.spent done l.readings.items l.cpu l.view

@@ -1,6 +1,6 @@
 ghost use Rattle.std.specs.Prelude.{◌≡◌, IfOk, IsTrue, OnOk, slice_get};
 ghost use Rattle.task_syntax.specs.Expressions.{no_locals};
-ghost use Rattle.task_syntax.specs.Names.{tasks, tasks_of_unit};
+ghost use Rattle.task_syntax.specs.Names.{tasks};
 ghost use Rattle.task_syntax.specs.Statements.{body};
 ghost use Rattle.task_syntax.specs.Units.{statements_of, task_course};
 ghost use Rattle.serial_run.specs.Locals.{locals_of};
@@ -14,7 +14,7 @@ use crate::statement::statements;
 use coati_word::{Ending, OutOfMemory};
 use std::alloc::Global;
 use task_check::Checked;
-use task_syntax::{Stmt, TaskDecl, UnitDecl};
+use task_syntax::Stmt;
 
 /// Runs a body on its parameters.
 pub(crate) fn run_body<'p>(
@@ -57,21 +57,11 @@ fn task_body(checked: &Checked, task: u16) -> &[Stmt]
 {
     let mut left = task as usize;
     for unit in checked.program().units.as_slice() {
-        let members = members_of(unit);
+        let members = unit.tasks();
         if left < members.len() {
             return members[left].body.as_slice();
         }
         left -= members.len();
     }
     &[]
-}
-
-/// The tasks of a unit.
-fn members_of(unit: &UnitDecl) -> &[TaskDecl]
-    ensures { result.now ≡ tasks_of_unit unit.now }
-{
-    match unit {
-        UnitDecl::Lone(task) => std::slice::from_ref(task),
-        UnitDecl::Tx(tx) => tx.tasks.as_slice(),
-    }
 }

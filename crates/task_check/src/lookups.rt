@@ -8,7 +8,7 @@ ghost use Rattle.task_syntax.specs.Units.{first_from, memberships};
 ghost use Rattle.task_check.specs.Counts.{transactions_of_unit};
 ghost use Rattle.task_check.specs.Numbers.{event_from, first_and_length};
 
-use crate::rules::{count_with, own_number, tasks_of};
+use crate::rules::{count_with, own_number};
 use task_syntax::{Event, Init, NameText, TaskDecl, UnitDecl, Var};
 
 /// How many words the variables have.
@@ -78,7 +78,7 @@ pub(crate) fn tasks(units: &[UnitDecl]) -> u16
 {
     let mut tasks = 0;
     for unit in units {
-        tasks += tasks_of(unit).len() as u16;
+        tasks += unit.tasks().len() as u16;
     }
     tasks
 }
@@ -90,7 +90,7 @@ pub(crate) fn task(units: &[UnitDecl], number: u16) -> &TaskDecl
 {
     let mut left = usize::from(number);
     for unit in units {
-        let tasks = tasks_of(unit);
+        let tasks = unit.tasks();
         if left < tasks.len() {
             return &tasks[left];
         }
@@ -107,7 +107,7 @@ pub(crate) fn task_of(units: &[UnitDecl], name: &NameText) -> Option<u16>
 {
     let mut first = 0;
     for unit in units {
-        let tasks = tasks_of(unit);
+        let tasks = unit.tasks();
         if let Some(task) = task_among(first, tasks, name) {
             return Some(task);
         }
@@ -169,7 +169,7 @@ pub(crate) fn tx_of_task(units: &[UnitDecl], task: u16) -> Option<u16>
     let mut left = usize::from(task);
     let mut transactions = 0;
     for unit in units {
-        let count = tasks_of(unit).len();
+        let count = unit.tasks().len();
         if left < count {
             return narrow(own_number(unit, transactions));
         }
@@ -204,7 +204,7 @@ pub(crate) fn first_of_tx(units: &[UnitDecl], tx: u16) -> u16
         if own_number(unit, transactions) == Some(usize::from(tx)) {
             return first;
         }
-        first += tasks_of(unit).len() as u16;
+        first += unit.tasks().len() as u16;
         transactions = count_with(unit, transactions);
     }
     unreachable!()

@@ -11,7 +11,7 @@ mod reading;
 mod tops;
 mod transitions;
 
-pub(crate) use bodies::{least_in_bodies, tasks_of};
+pub(crate) use bodies::least_in_bodies;
 pub(crate) use body::Body;
 pub(crate) use body_rule::BodyRule;
 pub(crate) use reading::{endings_and_shapes, measures};

@@ -34,7 +34,7 @@ fn task_at(units: &[UnitDecl], number: u16) -> Option<&TaskDecl>
 {
     let mut left = usize::from(number);
     for unit in units {
-        let tasks = tasks_of(unit);
+        let tasks = unit.tasks();
         if left < tasks.len() {
             return Some(&tasks[left]);
         }
@@ -49,14 +49,4 @@ fn event_at(events: &[Event], number: u16) -> Option<&Event>
     ensures none { IfNone result (slice_get events.now number ≡ None) }
 {
     events.get(usize::from(number))
-}
-
-/// The tasks of a unit.
-fn tasks_of(unit: &UnitDecl) -> &[TaskDecl]
-    ensures { result.now ≡ tasks_of_unit unit.now }
-{
-    match unit {
-        UnitDecl::Lone(task) => std::slice::from_ref(task),
-        UnitDecl::Tx(tx) => tx.tasks.as_slice(),
-    }
 }

@@ -1,5 +1,9 @@
+ghost use Rattle.std.specs.Prelude.{◌≡◌};
+ghost use Rattle.task_syntax.specs.Names.{tasks_of_unit};
+
 use crate::{Name, Number, Stmt};
 use sqlite_items::Items;
+use std::slice;
 
 /// A program: its nonvolatile variables, the size of its buffer where one is declared, its events, and its tasks.
 #[derive(Debug, Drop)]
@@ -41,6 +45,18 @@ pub struct Event {
 pub enum UnitDecl {
     Lone(TaskDecl),
     Tx(TxDecl),
+}
+
+impl UnitDecl {
+    /// The tasks of the unit, in their order.
+    pub fn tasks(&self) -> &[TaskDecl]
+        ensures { result.now ≡ tasks_of_unit self.now }
+    {
+        match self {
+            UnitDecl::Lone(task) => slice::from_ref(task),
+            UnitDecl::Tx(tx) => tx.tasks.as_slice(),
+        }
+    }
 }
 
 /// A task.

@@ -45,6 +45,35 @@ fn block_of_two(alloc: Global, first: Stmt, second: Stmt) -> Result<Items<Stmt>,
     Ok(block)
 }
 
+fn halting_task(alloc: Global, text: &[u8]) -> Result<TaskDecl, Fail> {
+    Ok(TaskDecl {
+        name: name(alloc, text)?,
+        body: block_of_one(alloc, Stmt::Halt(0))?,
+    })
+}
+
+#[test]
+fn units_have_their_tasks(rt: HostRuntime) -> Result<(), Fail> {
+    let alloc = rt.alloc();
+    let lone = UnitDecl::Lone(halting_task(alloc, b"t")?);
+    let mut members = Items::new(alloc);
+    members.push(halting_task(alloc, b"u")?)?;
+    members.push(halting_task(alloc, b"v")?)?;
+    let pair = UnitDecl::Tx(TxDecl {
+        name: name(alloc, b"q")?,
+        tasks: members,
+    });
+    let table: [(UnitDecl, &[&[u8]]); 2] = [(lone, &[b"t"]), (pair, &[b"u", b"v"])];
+    for (unit, names) in &table {
+        let mut found = Vec::new(alloc);
+        for task in unit.tasks() {
+            found.push(task.name.text.as_slice())?;
+        }
+        assert_eq!(rt; found.as_slice(), *names);
+    }
+    Ok(())
+}
+
 /// `nv n = 0; nv a[8];`
 fn program(alloc: Global) -> Result<Program, Fail> {
     let mut vars = Items::new(alloc);

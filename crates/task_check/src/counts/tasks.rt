@@ -1,6 +1,6 @@
-ghost use Rattle.std.specs.Prelude.{◌≡◌, length, slice_get};
+ghost use Rattle.std.specs.Prelude.{◌≡◌, slice_get};
 ghost use Rattle.std.specs.Option.{option_copied};
-ghost use Rattle.task_syntax.specs.Names.{tasks, tasks_of_unit};
+ghost use Rattle.task_syntax.specs.Names.{tasks};
 ghost use Rattle.task_check.specs.Counts.{place_of, too_many_tasks_places, transactions};
 ghost use Rattle.task_check.specs.Least.{IsLeastOf, least};
 
@@ -46,33 +46,13 @@ pub(crate) fn task_at(program: &Program, number: usize) -> Option<&TaskDecl>
 {
     let mut left = number;
     for unit in program.units.as_slice() {
-        let count = task_count(unit);
-        if left < count {
-            return member(unit, left);
+        let tasks = unit.tasks();
+        if left < tasks.len() {
+            return Some(&tasks[left]);
         }
-        left -= count;
+        left -= tasks.len();
     }
     None
-}
-
-/// The tasks of a unit.
-pub(crate) fn task_count(unit: &UnitDecl) -> usize
-    ensures { result ≡ length (tasks_of_unit unit.now) }
-{
-    match unit {
-        UnitDecl::Lone(_) => 1,
-        UnitDecl::Tx(tx) => tx.tasks.len(),
-    }
-}
-
-/// The task of this number within its unit.
-fn member(unit: &UnitDecl, number: usize) -> Option<&TaskDecl>
-    ensures { option_copied result ≡ slice_get (tasks_of_unit unit.now) number }
-{
-    match unit {
-        UnitDecl::Lone(task) => { if number == 0 { Some(task) } else { None } }
-        UnitDecl::Tx(tx) => tx.tasks.as_slice().get(number),
-    }
 }
 
 /// The transaction of a number.

@@ -7,7 +7,6 @@ ghost use Rattle.task_check.specs.Least.{least};
 use super::body::Body;
 use super::body_rule::BodyRule;
 use crate::least::lesser;
-use std::slice;
 use task_syntax::{Event, Program, TaskDecl, UnitDecl};
 
 /// The least place where a body breaks the rule.
@@ -25,19 +24,9 @@ fn least_in_units(rule: BodyRule, units: &[UnitDecl]) -> Option<u32>
 {
     let mut found = None;
     for unit in units {
-        found = lesser(found, least_in_tasks(rule, tasks_of(unit)));
+        found = lesser(found, least_in_tasks(rule, unit.tasks()));
     }
     found
-}
-
-/// The tasks of a unit.
-pub(crate) fn tasks_of(unit: &UnitDecl) -> &[TaskDecl]
-    ensures { result.now ≡ tasks_of_unit unit.now }
-{
-    match unit {
-        UnitDecl::Lone(task) => slice::from_ref(task),
-        UnitDecl::Tx(tx) => tx.tasks.as_slice(),
-    }
 }
 
 #[tactic(auto, using(crate::proofs::LeastParts::parts))]

@@ -6,7 +6,7 @@ ghost use Rattle.task_check.specs.BodyRules.{read};
 ghost use Rattle.task_check.specs.Least.{IsLeastOf, least};
 ghost use Rattle.task_check.specs.Measures.{IsFirstLeastOf, above, first_least, nearer, too_deep_stack, too_deep_stack_places, too_long, too_long_places, too_many_locals, too_many_locals_places};
 
-use super::bodies::{least_in_bodies, tasks_of};
+use super::bodies::least_in_bodies;
 use super::body::Body;
 use super::body_rule::BodyRule;
 use coati_word::limits::{BODY_COST, LOCALS, OPERANDS};
@@ -76,7 +76,7 @@ fn too_long_units(program: &Program, units: &[UnitDecl]) -> Option<(u32, u32)>
 {
     let mut found = None;
     for unit in units {
-        found = nearer(found, too_long_tasks(program, tasks_of(unit)));
+        found = nearer(found, too_long_tasks(program, unit.tasks()));
     }
     found
 }

@@ -4,7 +4,6 @@ ghost use Rattle.task_check.specs.Least.{IsLeastOf, least};
 ghost use Rattle.task_check.specs.Transitions.{enters_in, enters_in_block, enters_in_member, into, into_tx_places, members, midst_of};
 ghost use Rattle.task_check.specs.UnitWalk.{count_with, own_number};
 
-use super::bodies::tasks_of;
 use crate::least::lesser;
 use task_syntax::{NameText, Program, Stmt, TaskDecl, UnitDecl};
 
@@ -23,7 +22,7 @@ fn least_in_units(program: &Program, units: &[UnitDecl]) -> Option<u32>
     let mut tx = 0;
     for unit in units {
         let own = own_number(unit, tx);
-        found = lesser(found, enters_in_tasks(program, own, tasks_of(unit)));
+        found = lesser(found, enters_in_tasks(program, own, unit.tasks()));
         tx = count_with(unit, tx);
     }
     found
@@ -106,7 +105,7 @@ fn midst_of(program: &Program, name: &NameText) -> Option<usize>
 {
     let mut tx = 0;
     for unit in program.units.as_slice() {
-        match position_in(tasks_of(unit), name) {
+        match position_in(unit.tasks(), name) {
             Some(0) => return None,
             Some(_) => return Some(tx),
             None => {}

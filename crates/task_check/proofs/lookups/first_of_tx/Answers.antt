@@ -42,7 +42,7 @@ loop-unit-preserved c =
     let test = sym (option_eq-is_own tx (own_number unit before)) ∙ ap (λ tx. option_eq nat_eq (own_number unit before) (Some tx)) (sym c.from.ensures)
     ∙ ap (λ own. option_eq nat_eq own (Some c.from.result)) (sym c.own_number.ensures) ∙ sym c.eq.ensures ∙ c.if-eq.false in
     let within : i < length units = omega arith in
-    let members : length c.tasks_of.result.now ≡ length (tasks_of_unit unit) = ap length c.tasks_of.ensures in
+    let members : length c.tasks.result.now ≡ length (tasks_of_unit unit) = ap length c.tasks.ensures in
     let tasks = length-from tasks_of_unit units i unit within c.unit-item.is in
     let transactions = length-from transactions_of_unit units i unit within c.unit-item.is in
     let counted = count_with-is unit before in

@@ -11,19 +11,19 @@ returns-then-left-tasks c =
     let units = c.args.units.now in
     let unit = c.unit-item.result in
     let left = c.loop-unit.left in
-    let members : length c.tasks_of-tasks.result.now ≡ length (tasks_of_unit unit) = ap length c.tasks_of-tasks.ensures in
+    let members : length c.tasks-tasks.result.now ≡ length (tasks_of_unit unit) = ap length c.tasks-tasks.ensures in
     let here = get-here tasks_of_unit units c.loop-unit.unit-index unit left (omega arith) c.unit-item.is (omega arith) in
-    let found : slice_get c.tasks_of-tasks.result.now left ≡ Some c.index-tasks-left.result =
-    slice_get_read c.tasks_of-tasks.result.now (length c.tasks_of-tasks.result.now) left c.index-tasks-left.result refl (omega arith) c.index-tasks-left.is in
-    sym c.loop-unit.invariant.left ∙ here ∙ sym (ap (λ (list : List TaskDecl). slice_get list left) c.tasks_of-tasks.ensures) ∙ found
+    let found : slice_get c.tasks-tasks.result.now left ≡ Some c.index-tasks-left.result =
+    slice_get_read c.tasks-tasks.result.now (length c.tasks-tasks.result.now) left c.index-tasks-left.result refl (omega arith) c.index-tasks-left.is in
+    sym c.loop-unit.invariant.left ∙ here ∙ sym (ap (λ (list : List TaskDecl). slice_get list left) c.tasks-tasks.ensures) ∙ found
 
 pub loop-unit-preserved : goal.loop-unit-preserved
 loop-unit-preserved c =
     let units = c.args.units.now in
     let i = c.loop-unit.unit-index in
     let unit = c.unit-item.result in
-    let members : length c.tasks_of-tasks.result.now ≡ length (tasks_of_unit unit) = ap length c.tasks_of-tasks.ensures in
-    let rest = c.loop-unit.left - length c.tasks_of-tasks.result.now in
+    let members : length c.tasks-tasks.result.now ≡ length (tasks_of_unit unit) = ap length c.tasks-tasks.ensures in
+    let rest = c.loop-unit.left - length c.tasks-tasks.result.now in
     let further = get-further tasks_of_unit units i unit c.loop-unit.left rest (omega arith) c.unit-item.is (omega arith) in
     let counted = length-from tasks_of_unit units i unit (omega arith) c.unit-item.is in
     record { left = sym further ∙ c.loop-unit.invariant.left; within = omega (arith, counted, members, c.loop-unit.invariant.within) }

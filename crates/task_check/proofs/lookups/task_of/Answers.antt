@@ -13,7 +13,7 @@ returns-in-Some-clause-task c =
     let name = c.args.name.now in
     let first = c.loop-unit.first in
     let rest = flat_map tasks_of_unit (drop (i + 1) units) in
-    let found = ap (λ tasks. task_from first tasks name) (sym c.tasks_of-tasks.ensures) ∙ sym c.task_among.ensures.task ∙ c.in-Some.is in
+    let found = ap (λ tasks. task_from first tasks name) (sym c.tasks-tasks.ensures) ∙ sym c.task_among.ensures.task ∙ c.in-Some.is in
     sym (task_from-found first (tasks_of_unit unit) rest name c.in-Some.task found) ∙ ap (λ tasks. task_from first tasks name) (sym (unit-from tasks_of_unit units i unit (omega arith) c.unit-item.is))
     ∙ c.loop-unit.invariant.left
 
@@ -22,7 +22,7 @@ returns-in-Some-clause-within c =
     let units = c.args.units.now in
     let i = c.loop-unit.unit-index in
     let unit = c.unit-item.result in
-    let members : length c.tasks_of-tasks.result.now ≡ length (tasks_of_unit unit) = ap length c.tasks_of-tasks.ensures in
+    let members : length c.tasks-tasks.result.now ≡ length (tasks_of_unit unit) = ap length c.tasks-tasks.ensures in
     let tasks = length-from tasks_of_unit units i unit (omega arith) c.unit-item.is in
     let below = c.in-Some.ensures.within in
     omega (arith, members, tasks, below, c.loop-unit.invariant.fits)
@@ -36,8 +36,8 @@ loop-unit-preserved c =
     let first = c.loop-unit.first in
     let within : i < length units = omega arith in
     let rest = flat_map tasks_of_unit (drop (i + 1) units) in
-    let members : length c.tasks_of-tasks.result.now ≡ length (tasks_of_unit unit) = ap length c.tasks_of-tasks.ensures in
-    let none : task_from first (tasks_of_unit unit) name ≡ None = ap (λ tasks. task_from first tasks name) (sym c.tasks_of-tasks.ensures) ∙ sym c.task_among.ensures.task ∙ c.in_default.is in
+    let members : length c.tasks-tasks.result.now ≡ length (tasks_of_unit unit) = ap length c.tasks-tasks.ensures in
+    let none : task_from first (tasks_of_unit unit) name ≡ None = ap (λ tasks. task_from first tasks name) (sym c.tasks-tasks.ensures) ∙ sym c.task_among.ensures.task ∙ c.in_default.is in
     let tasks = length-from tasks_of_unit units i unit within c.unit-item.is in
     record {
       left =

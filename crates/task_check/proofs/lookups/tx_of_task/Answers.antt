@@ -13,7 +13,7 @@ returns-then-left-count-clause-tx c =
     let units = c.args.units.now in
     let i = c.loop-unit.unit-index in
     let unit = c.unit-item.result in
-    let members : length c.tasks_of-count.result.now ≡ length (tasks_of_unit unit) = ap length c.tasks_of-count.ensures in
+    let members : length c.tasks-count.result.now ≡ length (tasks_of_unit unit) = ap length c.tasks-count.ensures in
     let here = membership-here units i unit c.loop-unit.transactions c.loop-unit.left (omega arith) c.unit-item.is (omega arith) in
     c.narrow.ensures ∙ c.own_number.ensures ∙ ap (option_and_then (λ tx. tx)) (sym here ∙ c.loop-unit.invariant.left)
 
@@ -32,8 +32,8 @@ loop-unit-preserved c =
     let unit = c.unit-item.result in
     let before = c.loop-unit.transactions in
     let within : i < length units = omega arith in
-    let members : length c.tasks_of-count.result.now ≡ length (tasks_of_unit unit) = ap length c.tasks_of-count.ensures in
-    let left = c.loop-unit.left - length c.tasks_of-count.result.now in
+    let members : length c.tasks-count.result.now ≡ length (tasks_of_unit unit) = ap length c.tasks-count.ensures in
+    let left = c.loop-unit.left - length c.tasks-count.result.now in
     let further = membership-further units i unit before c.loop-unit.left left within c.unit-item.is (omega arith) in
     let transactions = length-from transactions_of_unit units i unit within c.unit-item.is in
     let counted = count_with-is unit before in

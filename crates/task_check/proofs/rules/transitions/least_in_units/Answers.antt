@@ -32,8 +32,8 @@ loop-unit-preserved c =
           ∙ members-cons program tx (get_or units index unit) behind
           ∙ ap (λ (u : UnitDecl). flat_map (λ (task : TaskDecl). enters_in_member program (own_number u tx, task)) (tasks_of_unit u) ++ flat_map (enters_in_member program) (members (count_with u tx) behind)) (sym c.unit-item.is))
           (c.enters_in_tasks.ensures
-          ∙ ap (λ (own : Option ℕ). least (flat_map (λ (task : TaskDecl). enters_in_member program (own, task)) c.tasks_of.result.now)) c.own_number-own.ensures
-          ∙ ap (λ (tasks : List TaskDecl). least (flat_map (λ (task : TaskDecl). enters_in_member program (own_number unit tx, task)) tasks)) c.tasks_of.ensures)
+          ∙ ap (λ (own : Option ℕ). least (flat_map (λ (task : TaskDecl). enters_in_member program (own, task)) c.tasks.result.now)) c.own_number-own.ensures
+          ∙ ap (λ (tasks : List TaskDecl). least (flat_map (λ (task : TaskDecl). enters_in_member program (own_number unit tx, task)) tasks)) c.tasks.ensures)
           c.lesser-found.ensures c.loop-unit.invariant.left);
       few = rw c.count_with-tx.ensures (omega arith);
     }

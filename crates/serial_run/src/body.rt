@@ -55,13 +55,9 @@ pub(crate) fn run_task(
 fn task_body(checked: &Checked, task: u16) -> &[Stmt]
     ensures { result.now ≡ statements_of (slice_get (tasks checked.now) task) }
 {
-    let mut left = task as usize;
-    for unit in checked.program().units.as_slice() {
-        let members = unit.tasks();
-        if left < members.len() {
-            return members[left].body.as_slice();
-        }
-        left -= members.len();
+    if task < checked.tasks() {
+        checked.task(task).body.as_slice()
+    } else {
+        &[]
     }
-    &[]
 }

@@ -1,8 +1,0 @@
-use Rattle.std.proofs.Common.{◌≡◌, drop}
-use Rattle.std.specs.Prelude.{flat_map, slice_get}
-use Rattle.task_syntax.specs.Names.{tasks_of_unit}
-use Rattle.task_cost.proofs.bodies.task_at.Given as goal
-
-abbrev pub invariant-loop-unit : goal.invariant-loop-unit
-invariant-loop-unit l =
-    slice_get (flat_map tasks_of_unit (drop l.unit-index l.units)) l.left ≡ slice_get (flat_map tasks_of_unit l.units) l.number

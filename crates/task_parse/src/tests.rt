@@ -1,3 +1,4 @@
+use super::ParseFault::{Syntax, TooDeep};
 use super::*;
 use std::alloc::{AllocError, Global};
 use std::process::Abort;
@@ -143,120 +144,60 @@ fn the_first_misplaced_token_is_told(rt: HostRuntime) {
     }
 }
 
+/// A statement of a head, a middle within so many of the texts before and after it, and a tail; and the fault that is told of it.
+type Nesting = (
+    &'static str,
+    &'static str,
+    usize,
+    &'static str,
+    &'static str,
+    &'static str,
+    Option<ParseFault>,
+);
+
 #[test]
-fn brackets_and_operators_are_counted(rt: HostRuntime) -> Result<(), Fail> {
-    let table: [(&str, &str, usize, &str, &str, &str, Option<ParseFault>); 23] = [
-        // The 65th open bracket, the brace of the task being the first.
+fn the_65th_open_bracket_is_too_deep(rt: HostRuntime) -> Result<(), Fail> {
+    // The brace of the task is the first.
+    let table: [Nesting; 9] = [
         ("x = ", "(", 63, "1", ")", ";", None),
-        (
-            "x = ",
-            "(",
-            64,
-            "1",
-            ")",
-            ";",
-            Some(ParseFault::TooDeep(71)),
-        ),
+        ("x = ", "(", 64, "1", ")", ";", Some(TooDeep(71))),
         ("x = ", "x[", 63, "1", "]", ";", None),
-        (
-            "x = ",
-            "x[",
-            64,
-            "1",
-            "]",
-            ";",
-            Some(ParseFault::TooDeep(135)),
-        ),
+        ("x = ", "x[", 64, "1", "]", ";", Some(TooDeep(135))),
         ("", "if 1 {", 63, "", "}", "", None),
-        (
-            "",
-            "if 1 {",
-            64,
-            "",
-            "}",
-            "",
-            Some(ParseFault::TooDeep(197)),
-        ),
-        (
-            "",
-            "if 1 {",
-            63,
-            "x[1] = 1;",
-            "}",
-            "",
-            Some(ParseFault::TooDeep(196)),
-        ),
+        ("", "if 1 {", 64, "", "}", "", Some(TooDeep(197))),
+        ("", "if 1 {", 63, "x[1] = 1;", "}", "", Some(TooDeep(196))),
         ("x[", "(", 62, "1", ")", "] = 1;", None),
-        (
-            "x[",
-            "(",
-            63,
-            "1",
-            ")",
-            "] = 1;",
-            Some(ParseFault::TooDeep(70)),
-        ),
+        ("x[", "(", 63, "1", ")", "] = 1;", Some(TooDeep(70))),
+    ];
+    faults_are_told(&rt, rt.alloc(), &table)
+}
 
-        // It is no more than misplaced where no bracket can stand.
-        (
-            "x = ",
-            "(",
-            63,
-            "1(",
-            ")",
-            ";",
-            Some(ParseFault::Syntax(72)),
-        ),
-        (
-            "x = ",
-            "(",
-            63,
-            ")(",
-            ")",
-            ";",
-            Some(ParseFault::Syntax(71)),
-        ),
+#[test]
+fn a_bracket_is_misplaced_where_none_can_stand(rt: HostRuntime) -> Result<(), Fail> {
+    let table: [Nesting; 2] = [
+        ("x = ", "(", 63, "1(", ")", ";", Some(Syntax(72))),
+        ("x = ", "(", 63, ")(", ")", ";", Some(Syntax(71))),
+    ];
+    faults_are_told(&rt, rt.alloc(), &table)
+}
 
-        // The 17th operator of one expression, of one level or of several.
+#[test]
+fn the_17th_operator_is_too_deep(rt: HostRuntime) -> Result<(), Fail> {
+    // The operators of an expression are of one level or of several.
+    let table: [Nesting; 5] = [
         ("x = ", "1+", 16, "1", "", ";", None),
-        (
-            "x = ",
-            "1+",
-            17,
-            "1",
-            "",
-            ";",
-            Some(ParseFault::TooDeep(41)),
-        ),
-        (
-            "x = ",
-            "1+1*1|",
-            6,
-            "1",
-            "",
-            ";",
-            Some(ParseFault::TooDeep(41)),
-        ),
-        (
-            "x = ",
-            "-1-",
-            17,
-            "1",
-            "",
-            ";",
-            Some(ParseFault::TooDeep(58)),
-        ),
-        (
-            "x = ",
-            "1+",
-            16,
-            "1 2",
-            "",
-            ";",
-            Some(ParseFault::Syntax(41)),
-        ),
+        ("x = ", "1+", 17, "1", "", ";", Some(TooDeep(41))),
+        ("x = ", "1+1*1|", 6, "1", "", ";", Some(TooDeep(41))),
+        ("x = ", "-1-", 17, "1", "", ";", Some(TooDeep(58))),
+        ("x = ", "1+", 16, "1 2", "", ";", Some(Syntax(41))),
+    ];
+    faults_are_told(&rt, rt.alloc(), &table)
+}
 
-        // Operators in brackets and in other expressions of a list do not count.
+#[test]
+fn operators_elsewhere_are_not_counted(rt: HostRuntime) -> Result<(), Fail> {
+    // They stand in brackets, or in other expressions of a list.
+    let table: [Nesting; 7] = [
         ("x = ", "1+", 15, "(1+1+1)+1", "", ";", None),
         ("x = ", "1+", 15, "x[1+1+1]+1", "", ";", None),
         ("give ", "1+1+1+1+1,", 9, "1", "", ";", None),
@@ -289,12 +230,17 @@ fn brackets_and_operators_are_counted(rt: HostRuntime) -> Result<(), Fail> {
         ),
         ("x = ", "-1*(", 63, "1", ")", ";", None),
     ];
+    faults_are_told(&rt, rt.alloc(), &table)
+}
+
+/// Fails where what is told of a statement is not the fault of its row.
+fn faults_are_told(rt: &impl Abort, alloc: Global, table: &[Nesting]) -> Result<(), Fail> {
     for (head, before, count, middle, after, tail, fault) in table {
-        let inner = nested(rt.alloc(), before, count, middle, after)?;
-        let source = format!(in rt.alloc(); "nv x; task t {{ {head}{inner}{tail} }}")?;
+        let inner = nested(alloc, before, *count, middle, after)?;
+        let source = format!(in alloc; "nv x; task t {{ {head}{inner}{tail} }}")?;
         assert_eq!(rt;
-            answer(&rt, rt.alloc(), source.as_bytes()).err(),
-            fault,
+            answer(rt, alloc, source.as_bytes()).err(),
+            *fault,
             "of {source}"
         );
     }

@@ -65,7 +65,7 @@ set_at : (words : List ℕ) (word value other : ℕ) (is : Bool) → other == wo
 set_at words word value other true is inside =
     let same : other ≡ word = grind (arith, nat_tests) in
     ap (slice_index (slice_set words word value)) same ∙ get_or-set_same words word value 0 inside
-set_at words word value other false is inside = 
+set_at words word value other false is inside =
     let differs : other ≢ word = grind (arith, nat_tests) in
     get_or-set_other words word other value 0 differs
 

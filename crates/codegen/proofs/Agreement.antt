@@ -7,7 +7,7 @@ use Rattle.std.proofs.lemmas.Slice.Eq.{bytes_eq-Decides}
 use Rattle.std.proofs.lemmas.List.{get_or-set_same, get_or-set_other}
 use Rattle.task_syntax.specs.Expressions.{Locals, with_local}
 use Rattle.codegen.specs.Scope.{Local, Scope, slot_of, declare, behind_block}
-use Rattle.codegen.specs.Fit.{is_among}
+use Rattle.task_check.specs.Loops.{is_among}
 
 abbrev pub names_of : List Local → List (List ℕ)
 names_of [] = []

@@ -10,8 +10,9 @@ use Rattle.word_code.specs.declared.instruction.Instr.{Instr}
 use Rattle.codegen.specs.Scope.{Local, Scope, declare, behind_block}
 use Rattle.codegen.specs.Templates as code
 use Rattle.codegen.specs.Templates.{Compiled, Template, PlaceCode, plainly, declaring, within, when, either, loop, storing}
+use Rattle.task_check.specs.Loops.{is_among}
 use Rattle.codegen.specs.Fit as fit
-use Rattle.codegen.specs.Fit.{Part, Sparing, is_among, uses, declares, loop_fits}
+use Rattle.codegen.specs.Fit.{Part, Sparing, uses, declares, loop_fits}
 use Rattle.codegen.proofs.Agreement.{names_of, Grows, Sound, same_grows, grows_on, declare_grows, sound_declared, sound_loop, sound_behind}
 use Rattle.codegen.proofs.Operands.{Gives}
 use Rattle.codegen.proofs.Statements.{Works, works_false, works_left, works_right, works_in, nothing_works, then_works, then_ended}

@@ -20,10 +20,11 @@ use Rattle.word_code.specs.declared.instruction.Instr.TheVariants.{Done}
 use Rattle.word_code.specs.InstructionLaws.{EncodedIsDecoded}
 use Rattle.word_code.specs.Machine.{State}
 use Rattle.word_code.specs.Following.{Follows, EndsWith, Computes}
+use Rattle.task_check.specs.Endings.{block_ends}
 use Rattle.codegen.specs.Code.{AreEncodable, size, words_of}
 use Rattle.codegen.specs.Scope.{Local, Scope, declare, declare_all, no_scope}
 use Rattle.codegen.specs.Templates.{Compiled, statements_code, body_code, body_words, end_code}
-use Rattle.codegen.specs.Fit.{Fits, opening_names, statements_names, block_ends}
+use Rattle.codegen.specs.Fit.{Fits, opening_names, statements_names}
 use Rattle.codegen.proofs.Following.{state, then_follows}
 use Rattle.codegen.proofs.Placed.{At, Stands, encodable_both, stands_front, stands_back, stands_all}
 use Rattle.codegen.proofs.Agreement.{names_of, Agrees, Sound, agrees_more, sound_declared}

@@ -6,7 +6,8 @@ use Rattle.coati_word.specs.declared.operator.Op.TheVariants as op
 use Rattle.task_syntax.specs.declared.statement.Stmt.{Stmt}
 use Rattle.task_syntax.specs.declared.body.Kind.TheVariants.{Task}
 use Rattle.task_syntax.specs.ProgramLaws.{HasNoEmptyArray}
-use Rattle.codegen.specs.Fit.{Fits, statements_names, statements_spare, block_ends}
+use Rattle.task_check.specs.Endings.{block_ends}
+use Rattle.codegen.specs.Fit.{Fits, statements_names, statements_spare}
 use Rattle.codegen.proofs.Built as build
 use Rattle.codegen.proofs.Built.{plain, number, get, two, assign, item}
 use Rattle.codegen.proofs.Examples.{counter, counts_to_three, n, i, x}

@@ -11,7 +11,9 @@ use Rattle.task_syntax.specs.declared.statement.Stmt as S
 use Rattle.task_syntax.specs.CodeWords.{expression_words, expression_words_step, access_words, access_words_step, statement_words, statement_words_step}
 use Rattle.task_syntax.specs.LocalCount.{declared_count, declared_step}
 use Rattle.task_syntax.specs.Depth.{expression_depth, expression_depth_step, index_depth, index_depth_step, statement_depth, statement_depth_step}
-use Rattle.codegen.specs.Fit.{Part, Sparing, expression_names, expression_names_step, place_names, place_names_step, statement_names, statement_names_step, expression_spares_step, place_spares, place_spares_step, statement_spares, statement_spares_step, statement_turns, statement_turns_step, statement_gives, statement_gives_step, statement_ends, ends_step}
+use Rattle.task_check.specs.Endings.{statement_ends, ends_step}
+use Rattle.task_check.specs.Messages.{statement_gives, statement_gives_step}
+use Rattle.codegen.specs.Fit.{Part, Sparing, expression_names, expression_names_step, place_names, place_names_step, statement_names, statement_names_step, expression_spares_step, place_spares, place_spares_step, statement_spares, statement_spares_step, statement_turns, statement_turns_step}
 
 abbrev Named : Type 0
 Named = List (List ℕ) → Bool

@@ -10,7 +10,7 @@ use Rattle.task_syntax.specs.Names.{tasks}
 use Rattle.task_check.specs.Accepted.{IsAccepted}
 use Rattle.task_check.specs.Bodies.{BodyRead, bodies, task_body, top_half, bottom_half, halves}
 use Rattle.task_check.specs.Counts.{bad_var, bad_turns}
-use Rattle.task_check.specs.Endings.{no_ending, early_endings}
+use Rattle.task_check.specs.Endings.{no_ending}
 use Rattle.task_check.specs.Loops.{loop_assigned}
 use Rattle.task_check.specs.Measures.{too_many_locals, too_deep_stack, too_long}
 use Rattle.codegen.proofs.Parted.{all-left, all-right}
@@ -20,7 +20,6 @@ use Rattle.codegen.proofs.NoPlaces.{none-right, none-each}
 pub record KeepsRules (program : Program) (body : BodyRead) : Type 0 where
   pub turns : bad_turns body ≡ []
   pub ending : no_ending body ≡ []
-  pub early : early_endings body ≡ []
   pub loops : loop_assigned body ≡ []
   pub locals : too_many_locals body ≡ []
   pub stack : too_deep_stack body ≡ []
@@ -40,7 +39,6 @@ module _ (program : Program) (accepted : IsAccepted program) where
   each_body k d within = record {
     turns = none-each bad_turns (bodies program) (none-right (flat_map bad_var program.vars) (flat_map bad_turns (bodies program)) (accepted 4 (omega arith) (omega arith))) k d within;
     ending = none-each no_ending (bodies program) (accepted 8 (omega arith) (omega arith)) k d within;
-    early = none-each early_endings (bodies program) (accepted 9 (omega arith) (omega arith)) k d within;
     loops = none-each loop_assigned (bodies program) (accepted 13 (omega arith) (omega arith)) k d within;
     locals = none-each too_many_locals (bodies program) (accepted 14 (omega arith) (omega arith)) k d within;
     stack = none-each too_deep_stack (bodies program) (accepted 15 (omega arith) (omega arith)) k d within;

@@ -12,9 +12,10 @@ use Rattle.task_syntax.specs.declared.statement.Stmt.{Stmt}
 use Rattle.task_syntax.specs.declared.statement.Stmt as S
 use Rattle.task_syntax.specs.Names.{words_of, task_of}
 use Rattle.task_check.specs.Scope.{Scope}
+use Rattle.task_check.specs.Loops.{is_among}
 use Rattle.task_check.specs.Mentions as rules
 use Rattle.task_check.specs.Mentions.{Mention}
-use Rattle.codegen.specs.Fit.{Passed, Part, is_among, expression_names, place_names, expressions_names, expression_names_step, place_names_step, statement_names, statement_names_step, statements_names}
+use Rattle.codegen.specs.Fit.{Passed, Part, expression_names, place_names, expressions_names, expression_names_step, place_names_step, statement_names, statement_names_step, statements_names}
 use Rattle.codegen.proofs.NoPlaces.{both-tests}
 use Rattle.codegen.proofs.Parted.{all-left, all-right}
 use Rattle.codegen.proofs.ScopedNames.{IsFine, AllFine, AreKnown, one_more, new_local}

@@ -22,8 +22,6 @@ pub mod Numbers
 pub mod ExampleFits
 pub mod FitLayers
 pub mod FittingBodies
-pub mod FittingEndings
-pub mod FittingGives
 pub mod FittingMeasures
 pub mod FittingNames
 pub mod FittingTurns

@@ -17,7 +17,7 @@ use Rattle.word_code.specs.Following.{Follows}
 use Rattle.codegen.specs.Code.{size, end_of, head_code, turn_code, loop_code}
 use Rattle.codegen.specs.Scope.{Scope, declare}
 use Rattle.codegen.specs.Templates.{Compiled}
-use Rattle.codegen.specs.Fit.{is_among}
+use Rattle.task_check.specs.Loops.{is_among}
 use Rattle.codegen.proofs.Following.{state, follows_in, then_follows}
 use Rattle.codegen.proofs.Placed.{Stands, size-append, encodable_both, stands_front, stands_back}
 use Rattle.codegen.proofs.Agreement.{names_of, Agrees, Grows, Sound, grows_on, agrees_less, agrees_past, agrees_more, declare_grows, other_value, differs, or-right, slot_here, value_here, among_here}

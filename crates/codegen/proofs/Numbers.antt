@@ -12,7 +12,8 @@ use Rattle.task_syntax.specs.declared.body.BodyId.{BodyId}
 use Rattle.task_syntax.specs.declared.body.BodyId.TheVariants.{Task, Top, Bottom}
 use Rattle.task_syntax.specs.Names.{tasks}
 use Rattle.word_code.specs.Code.{IsInItsPart, number_of}
-use Rattle.codegen.specs.Bodies.{Body, task_body, top_half, bottom_half, halves, bodies, body_of, words_of_body, EachFits}
+use Rattle.task_check.specs.Bodies.{BodyRead, task_body, top_half, bottom_half, halves, bodies}
+use Rattle.codegen.specs.Bodies.{body_of, words_of_body, EachFits}
 use Rattle.codegen.specs.CodeLaws.{StandsByNumber}
 use Rattle.codegen.specs.Fit.{Fits}
 use Rattle.codegen.specs.Templates.{task_words, half_words, program_words}
@@ -50,14 +51,14 @@ module _ (program : Program) where
       let e : length (tasks program) + i ≡ length front + i = omega (arith, length-map (tasks program) task_body) in
       ap (slice_get (bodies program)) e ∙ behind-front front (flat_map halves program.events) i
 
-  body-found : (number : BodyId) (body : Body) → body_of program number ≡ Some body → slice_get (bodies program) (number_of (length (tasks program)) number) ≡ Some body
+  body-found : (number : BodyId) (body : BodyRead) → body_of program number ≡ Some body → slice_get (bodies program) (number_of (length (tasks program)) number) ≡ Some body
   body-found (Task task) body h = in-front (map task_body (tasks program)) (flat_map halves program.events) task body (slice_get-map task_body (tasks program) task ∙ h)
   body-found (Top event) body h = body-behind (2 * event) ∙ top-among program.events event ∙ h
   body-found (Bottom event) body h =
       let e : length (tasks program) + 2 * event + 1 ≡ length (tasks program) + (2 * event + 1) = omega arith in
       ap (slice_get (bodies program)) e ∙ body-behind (2 * event + 1) ∙ bottom-among program.events event ∙ h
 
-  in-its-part : (number : BodyId) (body : Body) → body_of program number ≡ Some body → IsInItsPart (length (tasks program)) number
+  in-its-part : (number : BodyId) (body : BodyRead) → body_of program number ≡ Some body → IsInItsPart (length (tasks program)) number
   in-its-part (Task task) body h =
       let there = some-of task_body (slice_get (tasks program) task) body h in slice_get_within (tasks program) task there.0 there.1
   in-its-part (Top event) body h = tt
@@ -78,7 +79,7 @@ module _ (program : Program) where
       ∙ ap (λ front. front ++ map (words_of_body program) (flat_map halves program.events)) (task-words-in-order (tasks program))
       ∙ ap (λ back. map (task_words program) (tasks program) ++ back) (words-in-order program.events)
 
-  pub stands_by_number : (number : BodyId) (body : Body) → body_of program number ≡ Some body → StandsByNumber program number body
+  pub stands_by_number : (number : BodyId) (body : BodyRead) → body_of program number ≡ Some body → StandsByNumber program number body
   stands_by_number number body h =
       let i = number_of (length (tasks program)) number in
       let words = program_words program in
@@ -89,9 +90,9 @@ module _ (program : Program) where
         words_are = get_or_from_slice_get words i (words_of_body program body) [] found;
       }
 
-  pub fits_by_number : EachFits program → (number : BodyId) (body : Body) → body_of program number ≡ Some body → Fits program body.kind body.params body.statements
+  pub fits_by_number : EachFits program → (number : BodyId) (body : BodyRead) → body_of program number ≡ Some body → Fits program body.kind body.params body.statements
   fits_by_number each number body h =
       let i = number_of (length (tasks program)) number in
       let found = body-found number body h in
-      let P = λ (b : Body). Fits program b.kind b.params b.statements in
+      let P = λ (b : BodyRead). Fits program b.kind b.params b.statements in
       subst P (get_or_from_slice_get (bodies program) i body body found) (All-get_or P (bodies program) i body (slice_get_within (bodies program) i body found) each)

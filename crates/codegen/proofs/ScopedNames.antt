@@ -14,7 +14,7 @@ use Rattle.task_syntax.specs.Names.{words_of, task_of}
 use Rattle.task_check.specs.Scope.{Scope, meaning_of}
 use Rattle.task_check.specs.Mentions.{Mention, place_mentions_step, statement_part_step}
 use Rattle.task_check.specs.NameRules.{suits, is_twice_named, is_wrong_kind, places_where}
-use Rattle.codegen.specs.Fit.{is_among}
+use Rattle.task_check.specs.Loops.{is_among}
 
 -- a name that breaks no rule where it stands
 pub record IsFine (mention : Mention) : Type 0 where

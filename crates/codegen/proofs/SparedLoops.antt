@@ -10,8 +10,8 @@ use Rattle.task_syntax.specs.declared.expression.Place as P
 use Rattle.task_syntax.specs.declared.statement.Stmt.{Stmt}
 use Rattle.task_syntax.specs.declared.statement.Stmt as S
 use Rattle.task_check.specs.Bodies.{BodyRead}
-use Rattle.task_check.specs.Loops.{Within, place_among, plain_name, plain_step, nothing_step, assigned_in, assigned_step, assigned_in_block}
-use Rattle.codegen.specs.Fit.{is_among, Sparing, place_spares, place_spares_step, expression_spares_step, statement_spares, statement_spares_step, statements_spare}
+use Rattle.task_check.specs.Loops.{Within, is_among, place_among, plain_name, plain_step, nothing_step, assigned_in, assigned_step, assigned_in_block}
+use Rattle.codegen.specs.Fit.{Sparing, place_spares, place_spares_step, expression_spares_step, statement_spares, statement_spares_step, statements_spare}
 use Rattle.codegen.proofs.Trees.{every_place, StatementCases, AllOtherwise, every_statement_of}
 use Rattle.codegen.proofs.NoPlaces.{none-left, none-right, both-tests}
 use Rattle.codegen.proofs.KeptRules.{KeepsRules}

@@ -9,7 +9,7 @@ use Rattle.word_code.specs.Following.{Follows, EndsWith}
 use Rattle.codegen.specs.Code.{AreEncodable, size, then_code}
 use Rattle.codegen.specs.Scope.{Local, Scope}
 use Rattle.codegen.specs.Templates.{Compiled, plainly}
-use Rattle.codegen.specs.Fit.{is_among}
+use Rattle.task_check.specs.Loops.{is_among}
 use Rattle.codegen.proofs.Following.{state, follows_to, then_follows}
 use Rattle.codegen.proofs.Placed.{Stands, size-append, encodable_both, stands_front, stands_back}
 use Rattle.codegen.proofs.Agreement.{Agrees}

@@ -14,7 +14,7 @@ use Rattle.word_code.specs.Following.{Follows}
 use Rattle.codegen.specs.Code.{size}
 use Rattle.codegen.specs.Scope.{Local, Scope, slot_of, declare}
 use Rattle.codegen.specs.Templates.{plainly, declaring}
-use Rattle.codegen.specs.Fit.{is_among}
+use Rattle.task_check.specs.Loops.{is_among}
 use Rattle.codegen.proofs.Following.{state, then_follows}
 use Rattle.codegen.proofs.Placed.{size-append, encodable_both, stands_front, stands_back}
 use Rattle.codegen.proofs.Agreement.{names_of, Sound, agrees_declared, agrees_assigned, other_value, differs}

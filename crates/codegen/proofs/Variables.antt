@@ -16,7 +16,8 @@ use Rattle.task_syntax.specs.Statements.{assigned}
 use Rattle.word_code.specs.declared.instruction.Instr.{Instr}
 use Rattle.codegen.specs.Scope.{Local, Scope, slot_of}
 use Rattle.codegen.specs.Templates.{PlaceCode, plain_code, item_code, plainly}
-use Rattle.codegen.specs.Fit.{is_among, Sparing}
+use Rattle.task_check.specs.Loops.{is_among}
+use Rattle.codegen.specs.Fit.{Sparing}
 use Rattle.codegen.proofs.Agreement.{names_of, Sound, slot_known}
 use Rattle.codegen.proofs.Operands.{Gives, local_gives, word_gives, item_gives}
 use Rattle.codegen.proofs.Statements.{Works, works_in}

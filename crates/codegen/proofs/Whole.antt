@@ -18,9 +18,11 @@ use Rattle.task_syntax.specs.LocalCount.{declared_count, declared_step, declared
 use Rattle.task_syntax.specs.Expressions.{expression, expressions}
 use Rattle.task_syntax.specs.Statements.{Way, Conduct, next_task, statement, statement_step, statements}
 use Rattle.word_code.specs.declared.instruction.Instr.TheVariants as instr
+use Rattle.task_check.specs.Endings.{statement_ends, ends_step, block_ends}
+use Rattle.task_check.specs.Messages.{statement_gives, statement_gives_step, statements_give}
 use Rattle.codegen.specs.Scope.{Scope}
 use Rattle.codegen.specs.Templates.{Template, plainly, expression_code, expressions_code, statement_code, statement_code_step, statements_code}
-use Rattle.codegen.specs.Fit.{Part, Sparing, expression_names, place_names, statement_names, statement_names_step, statements_names, statement_spares, statement_spares_step, statements_spare, statement_turns, statement_turns_step, statements_turns, statement_gives, statement_gives_step, statements_give, statement_ends, ends_step, block_ends}
+use Rattle.codegen.specs.Fit.{Part, Sparing, expression_names, place_names, statement_names, statement_names_step, statements_names, statement_spares, statement_spares_step, statements_spare, statement_turns, statement_turns_step, statements_turns}
 use Rattle.codegen.proofs.Agreement.{names_of}
 use Rattle.codegen.proofs.Statements.{Works}
 use Rattle.codegen.proofs.Straight.{next_works, halt_works}

@@ -17,7 +17,8 @@ use Rattle.coati_word.specs.declared.ending.Ending.{Ending}
 use Rattle.word_code.specs.Code as words
 use Rattle.word_code.specs.Code.{HasBody}
 use Rattle.word_code.specs.Following.{Computes}
-use Rattle.codegen.specs.Bodies.{Body, body_of, words_of_body, program_code, EachFits}
+use Rattle.task_check.specs.Bodies.{BodyRead}
+use Rattle.codegen.specs.Bodies.{body_of, words_of_body, program_code, EachFits}
 use Rattle.codegen.specs.Code.{AreEncodable}
 use Rattle.codegen.specs.Fit.{Fits}
 use Rattle.codegen.specs.Templates.{body_code, body_words}
@@ -44,18 +45,18 @@ CodeHasItsWords =
     (program : Program) (kind : Kind) (params : List Name) (stmts : List Stmt) → length (body_words program kind params stmts) ≡ counted.body_words stmts kind
 
 -- the body stands among the code of the program, under its number
-pub record StandsByNumber (program : Program) (number : BodyId) (body : Body) : Type 0 where
+pub record StandsByNumber (program : Program) (number : BodyId) (body : BodyRead) : Type 0 where
   pub exists : HasBody (program_code program) number
   pub words_are : words.body_words (program_code program) number ≡ words_of_body program body
 
 -- so does each body
 abbrev pub BodiesStandByNumber : Type 0
-BodiesStandByNumber = (program : Program) (number : BodyId) (body : Body) → body_of program number ≡ Some body → StandsByNumber program number body
+BodiesStandByNumber = (program : Program) (number : BodyId) (body : BodyRead) → body_of program number ≡ Some body → StandsByNumber program number body
 
 -- in a program whose bodies fit, each computes its course from where it stands
 abbrev pub FittingProgramsComputeTheirCourses : Type 0
 FittingProgramsComputeTheirCourses =
-    (program : Program) → EachFits program → (number : BodyId) (body : Body) → body_of program number ≡ Some body →
+    (program : Program) → EachFits program → (number : BodyId) (body : BodyRead) → body_of program number ≡ Some body →
     (values : List ℕ) → length values ≡ length body.params →
     Computes (words.body_words (program_code program) number) (word_count program.vars) (body_cost program body.statements body.kind) values
     (course_on program body.params body.statements values)

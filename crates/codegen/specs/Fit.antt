@@ -1,9 +1,8 @@
 -- What a body keeps, so that its code does what it means. Each part is a fold of its own: names that are used are in scope,
 -- names that are declared are not; a loop's name is not assigned in the loop; a loop has at most
 -- 50,000 turns, and a message at most four words; a task and a top half end.
-use Rattle.std.specs.Prelude.{ℕ, ◌≡◌, ◌≤◌, Bool, true, false, ◌&&◌, ◌||◌, not, nat_le, List, [], ◌∷◌, map, length, Option, Some, None, is_some, if◌then◌else◌}
-use Rattle.std.specs.List.{list_any, list_all}
-use Rattle.std.specs.Str.{bytes_eq}
+use Rattle.std.specs.Prelude.{ℕ, ◌≡◌, ◌≤◌, Bool, true, ◌&&◌, ◌||◌, not, nat_le, List, [], ◌∷◌, map, length, Option, Some, None, is_some}
+use Rattle.std.specs.List.{list_all}
 use Rattle.task_syntax.specs.declared.name.Name.{Name}
 use Rattle.task_syntax.specs.declared.program.Program.{Program}
 use Rattle.task_syntax.specs.declared.expression.Expr.{Expr}
@@ -14,16 +13,14 @@ use Rattle.task_syntax.specs.declared.statement.Stmt.{Stmt}
 use Rattle.task_syntax.specs.declared.statement.Stmt.TheOpen.{Stmt-F}
 use Rattle.task_syntax.specs.declared.statement.Stmt.TheFolds.{fold-Stmt}
 use Rattle.task_syntax.specs.declared.body.Kind.{Kind}
-use Rattle.task_syntax.specs.declared.body.Kind.TheVariants.{Task, Top, Bottom}
 use Rattle.task_syntax.specs.ProgramLaws.{HasNoEmptyArray}
 use Rattle.task_syntax.specs.Names.{words_of, task_of}
 use Rattle.task_syntax.specs.CodeWords as words
 use Rattle.task_syntax.specs.LocalCount.{local_count}
 use Rattle.task_syntax.specs.Depth.{body_depth}
-
--- the name is one of these
-abbrev pub is_among : List (List ℕ) → List ℕ → Bool
-is_among names text = list_any (bytes_eq text) names
+use Rattle.task_check.specs.Endings.{has_ending}
+use Rattle.task_check.specs.Loops.{is_among}
+use Rattle.task_check.specs.Messages.{all_hold, other_holds, statements_give}
 
 -- whether the names of a part are as they must be, and the locals in scope behind it
 pub record Passed : Type 0 where
@@ -147,16 +144,6 @@ statement_spares = fold-Stmt Sparing statement_spares_step
 abbrev pub statements_spare : List Stmt → Sparing
 statements_spare block = all_spare (map statement_spares block)
 
--- all of these hold
-abbrev pub all_hold : List Bool → Bool
-all_hold [] = true
-all_hold (first ∷ more) = first && all_hold more
-
--- all that is said of the block behind `else`, where there is one
-abbrev pub other_holds : Option (List Bool) → Bool
-other_holds None = true
-other_holds (Some block) = all_hold block
-
 -- one layer of a statement: a loop has at most 50,000 turns
 abbrev pub statement_turns_step : Stmt-F Bool → Bool
 statement_turns_step (Stmt-F.Let name e) = true
@@ -174,63 +161,6 @@ statement_turns = fold-Stmt Bool statement_turns_step
 -- nor have those of statements
 abbrev pub statements_turns : List Stmt → Bool
 statements_turns block = all_hold (map statement_turns block)
-
--- one layer of a statement: a message has at most four words
-abbrev pub statement_gives_step : Stmt-F Bool → Bool
-statement_gives_step (Stmt-F.Let name e) = true
-statement_gives_step (Stmt-F.Assign place e) = true
-statement_gives_step (Stmt-F.If condition block other) = all_hold block && other_holds other
-statement_gives_step (Stmt-F.Repeat name count block) = all_hold block
-statement_gives_step (Stmt-F.Next name) = true
-statement_gives_step (Stmt-F.Halt at) = true
-statement_gives_step (Stmt-F.Give es at) = nat_le (length es) 4
-
--- the messages of a statement have no word too many
-abbrev pub statement_gives : Stmt → Bool
-statement_gives = fold-Stmt Bool statement_gives_step
-
--- nor have those of statements
-abbrev pub statements_give : List Stmt → Bool
-statements_give block = all_hold (map statement_gives block)
-
--- nothing follows
-abbrev pub is_last : {A : Type 0} → List A → Bool
-is_last [] = true
-is_last (next ∷ more) = false
-
--- a block ends where its last statement does
-abbrev pub last_ends : List Bool → Bool
-last_ends [] = false
-last_ends (first ∷ more) = if is_last more then first else last_ends more
-
--- both blocks of an `if` end
-abbrev pub both_end : List Bool → Option (List Bool) → Bool
-both_end block None = false
-both_end block (Some other) = last_ends block && last_ends other
-
--- one layer of a statement
-abbrev pub ends_step : Stmt-F Bool → Bool
-ends_step (Stmt-F.Let name e) = false
-ends_step (Stmt-F.Assign place e) = false
-ends_step (Stmt-F.If condition block other) = both_end block other
-ends_step (Stmt-F.Repeat name count block) = false
-ends_step (Stmt-F.Next name) = true
-ends_step (Stmt-F.Halt at) = true
-ends_step (Stmt-F.Give es at) = true
-
--- the statement is an ending, or an `if` whose two blocks end
-abbrev pub statement_ends : Stmt → Bool
-statement_ends = fold-Stmt Bool ends_step
-
--- the block ends
-abbrev pub block_ends : List Stmt → Bool
-block_ends block = last_ends (map statement_ends block)
-
--- a task and a top half end; a bottom half runs to its end
-abbrev pub has_ending : Kind → List Stmt → Bool
-has_ending Task stmts = block_ends stmts
-has_ending Top stmts = block_ends stmts
-has_ending Bottom stmts = true
 
 -- the parameters in scope, the latest first
 abbrev pub opening_names : List Name → List (List ℕ) → List (List ℕ)

@@ -12,7 +12,8 @@ use Rattle.task_syntax.specs.Names.{tasks}
 use Rattle.word_code.specs.declared.instruction.Instr.{Instr}
 use Rattle.word_code.specs.declared.instruction.Instr.TheVariants.{Push, GetL, SetL, LoadV, StoreV, LoadX, StoreX, Jump, JumpZ, Next, Halt, Done, Give, Two, One}
 use Rattle.word_code.specs.Instruction.{decoded}
-use Rattle.codegen.specs.Bodies.{task_body, top_half, bottom_half, words_of_body}
+use Rattle.task_check.specs.Bodies.{task_body, top_half, bottom_half}
+use Rattle.codegen.specs.Bodies.{words_of_body}
 
 -- the text of an operator
 abbrev pub operator_text : Op → List ℕ

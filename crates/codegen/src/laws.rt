@@ -10,6 +10,7 @@ ghost use Rattle.codegen.specs.CodeLaws.{BodiesStandByNumber, CodeHasItsWords, F
 ghost use Rattle.codegen.specs.Fit.{Fits};
 ghost use Rattle.codegen.specs.ProgramLaws.{BottomHalvesComputeTheirCourse, TasksComputeTheirCourse, TopHalvesComputeTheirCourse};
 
+use task_check::laws::accepted_messages_are_short;
 use word_code::laws::instructions_are_their_words;
 
 /// The words of a body that fits do what the body means: on any memory they make its reads and writes in their order, and
@@ -45,7 +46,9 @@ pub fn accepted_bodies_fit()
     ensures bottoms { (program : Program) → IsAccepted program
         → All (λ event. Fits program Bottom event.params event.bottom) program.events }
     ensures each { (program : Program) → IsAccepted program → EachFits program }
-{}
+{
+    accepted_messages_are_short();
+}
 
 /// The code of an accepted program does what the program means: each body, found by its number, follows its course within
 /// its cost, and is never stuck.

@@ -1,6 +1,7 @@
 ghost use Rattle.std.specs.Prelude.{◌≡◌, ◌≤◌, ◌++◌, IfOk, OnOk, IsSome, Some, flat_map, length, slice_get};
 ghost use Rattle.task_syntax.specs.Names.{tasks};
-ghost use Rattle.codegen.specs.Bodies.{Body, body_of, program_code, words_of_body};
+ghost use Rattle.task_check.specs.Bodies.{BodyRead};
+ghost use Rattle.codegen.specs.Bodies.{body_of, program_code, words_of_body};
 ghost use Rattle.codegen.specs.Listing.{body_lines, event_lines, listing, task_lines};
 
 use crate::laws::{accepted_bodies_fit, bodies_stand_by_number};
@@ -79,7 +80,7 @@ fn put_event(
 fn words_of<'a>(checked: &Checked, code: &'a Code, number: BodyId) -> &'a [u16]
     requires code { code.now ≡ program_code checked.now }
     requires body { IsSome (body_of checked.now number) }
-    ensures words { (body : Body) → body_of checked.now number ≡ Some body → result.now ≡ words_of_body checked.now body }
+    ensures words { (body : BodyRead) → body_of checked.now number ≡ Some body → result.now ≡ words_of_body checked.now body }
     ensures few { length result.now ≤ 50000 }
 {
     accepted_bodies_fit();

@@ -1,4 +1,3 @@
-pub mod Accepting
 pub mod Aiming
 pub mod Bodies
 pub mod Gifts
@@ -11,8 +10,6 @@ pub mod Params
 pub mod Reaching
 pub mod Rests
 pub mod Rising
-pub mod Shapes
-pub mod Statements
 pub mod Steps
 pub mod Tasks
 pub mod Telling

@@ -7,14 +7,14 @@ use Rattle.task_syntax.specs.declared.program.TaskDecl.{TaskDecl}
 use Rattle.task_syntax.specs.declared.program.UnitDecl.{UnitDecl}
 use Rattle.task_syntax.specs.Names.{tasks_of_unit}
 use Rattle.task_syntax.specs.Units.{statements_of}
-use Rattle.serial_run.specs.Sound.{gives_fit_in}
+use Rattle.task_check.specs.Messages.{statements_give}
 use Rattle.serial_run.proofs.Rests.{rest-is}
 
 -- what holds of each task holds of one of them
-pub task-gives : (tasks : List TaskDecl) (at : ℕ) → All (λ (task : TaskDecl). IsTrue (gives_fit_in task.body)) tasks → IsTrue (gives_fit_in (statements_of (slice_get tasks at)))
+pub task-gives : (tasks : List TaskDecl) (at : ℕ) → All (λ (task : TaskDecl). IsTrue (statements_give task.body)) tasks → IsTrue (statements_give (statements_of (slice_get tasks at)))
 task-gives [] at all = refl
-task-gives (task ∷ more) zero all = All-head (λ (t : TaskDecl). IsTrue (gives_fit_in t.body)) task more all
-task-gives (task ∷ more) (suc at) all = task-gives more at (All-tail (λ (t : TaskDecl). IsTrue (gives_fit_in t.body)) task more all)
+task-gives (task ∷ more) zero all = All-head (λ (t : TaskDecl). IsTrue (statements_give t.body)) task more all
+task-gives (task ∷ more) (suc at) all = task-gives more at (All-tail (λ (t : TaskDecl). IsTrue (statements_give t.body)) task more all)
 
 get-append : {X : Type 0} (xs ys : List X) (at : ℕ) → at < length xs → slice_get (xs ++ ys) at ≡ slice_get xs at
 get-append [] ys at below = absurd (omega arith)

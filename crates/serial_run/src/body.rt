@@ -3,10 +3,11 @@ ghost use Rattle.task_syntax.specs.Expressions.{no_locals};
 ghost use Rattle.task_syntax.specs.Names.{tasks};
 ghost use Rattle.task_syntax.specs.Statements.{body};
 ghost use Rattle.task_syntax.specs.Units.{statements_of, task_course};
+ghost use Rattle.task_check.specs.Messages.{statements_give};
 ghost use Rattle.serial_run.specs.Locals.{locals_of};
 ghost use Rattle.serial_run.specs.Moments.{behind, end_of};
 ghost use Rattle.serial_run.specs.Runs.{IsRunOf, moment_of};
-ghost use Rattle.serial_run.specs.Sound.{IsSound, gives_fit_in};
+ghost use Rattle.serial_run.specs.Sound.{IsSound};
 
 use crate::locals::Locals;
 use crate::run::Run;
@@ -25,7 +26,7 @@ pub(crate) fn run_body<'p>(
 ) -> Result<Ending, OutOfMemory>
     requires sound { IsSound checked.now }
     requires run { IsRunOf checked.now run.old }
-    requires gives { IsTrue (gives_fit_in block.now) }
+    requires gives { IsTrue (statements_give block.now) }
     ensures ending { IfOk result (λ ending. ending ≡ end_of (body checked.now block.now (locals_of locals.old)) (moment_of run.old)) }
     ensures still { OnOk result (IsRunOf checked.now run.new) }
     ensures moment { OnOk result (moment_of run.new ≡ behind (body checked.now block.now (locals_of locals.old)) (moment_of run.old)) }

@@ -2,10 +2,11 @@ ghost use Rattle.std.specs.Prelude.{◌≡◌, ◌≤◌, ◌<◌, IfOk, IsTrue,
 ghost use Rattle.task_syntax.specs.Course.{accesses, answer};
 ghost use Rattle.task_syntax.specs.Events.{bottom_course, event_course, message, message_of, with_words};
 ghost use Rattle.task_syntax.specs.Names.{word_count};
+ghost use Rattle.task_check.specs.Messages.{statements_give};
 ghost use Rattle.serial_run.specs.Locals.{locals_of};
 ghost use Rattle.serial_run.specs.Moments.{behind, end_of};
 ghost use Rattle.serial_run.specs.Runs.{IsRunOf, moment_of};
-ghost use Rattle.serial_run.specs.Sound.{IsSound, gives_fit_in};
+ghost use Rattle.serial_run.specs.Sound.{IsSound};
 
 use crate::body::run_body;
 use crate::locals::Locals;
@@ -70,7 +71,7 @@ fn message(
     argument: u16,
 ) -> Result<Message, OutOfMemory>
     requires sound { IsSound checked.now }
-    requires gives { IsTrue (gives_fit_in event.now.top) }
+    requires gives { IsTrue (statements_give event.now.top) }
     ensures { IfOk result (λ words. words ≡ message checked.now event.now argument) }
 {
     let words = usize::from(checked.words());

@@ -2,11 +2,12 @@ ghost use Rattle.std.specs.Prelude.{◌≡◌, ◌≤◌, length, IfOk, IsTrue, 
 ghost use Rattle.task_syntax.specs.Expressions.{expressions};
 ghost use Rattle.task_syntax.specs.Statements.{assigned, next_task, statement, statements, turns};
 ghost use Rattle.task_syntax.specs.Names.{task_of};
+ghost use Rattle.task_check.specs.Messages.{statement_gives, statements_give};
 ghost use Rattle.serial_run.specs.Aims.{IsAimWithin, aim_of};
 ghost use Rattle.serial_run.specs.Locals.{locals_of};
 ghost use Rattle.serial_run.specs.Moments.{behind, end_of};
 ghost use Rattle.serial_run.specs.Runs.{IsRunOf, moment_of};
-ghost use Rattle.serial_run.specs.Sound.{IsSound, gives_fit, gives_fit_in};
+ghost use Rattle.serial_run.specs.Sound.{IsSound};
 ghost use Rattle.serial_run.specs.Ways.{way_of};
 
 use crate::expression::{aim, evaluate};
@@ -27,7 +28,7 @@ pub(crate) fn statement<'p>(
 ) -> Result<Option<Ending>, OutOfMemory>
     requires sound { IsSound checked.now }
     requires run { IsRunOf checked.now run.old }
-    requires gives { IsTrue (gives_fit source.now) }
+    requires gives { IsTrue (statement_gives source.now) }
     ensures way { IfOk result (λ ending. way_of ending (locals_of locals.new) ≡ end_of (statement checked.now source.now (locals_of locals.old)) (moment_of run.old)) }
     ensures still { OnOk result (IsRunOf checked.now run.new) }
     ensures moment { OnOk result (moment_of run.new ≡ behind (statement checked.now source.now (locals_of locals.old)) (moment_of run.old)) }
@@ -76,7 +77,7 @@ pub(crate) fn statements<'p>(
 ) -> Result<Option<Ending>, OutOfMemory>
     requires sound { IsSound checked.now }
     requires run { IsRunOf checked.now run.old }
-    requires gives { IsTrue (gives_fit_in block.now) }
+    requires gives { IsTrue (statements_give block.now) }
     ensures way { IfOk result (λ ending. way_of ending (locals_of locals.new) ≡ end_of (statements checked.now block.now (locals_of locals.old)) (moment_of run.old)) }
     ensures still { OnOk result (IsRunOf checked.now run.new) }
     ensures moment { OnOk result (moment_of run.new ≡ behind (statements checked.now block.now (locals_of locals.old)) (moment_of run.old)) }
@@ -101,7 +102,7 @@ fn repeat<'p>(
 ) -> Result<Option<Ending>, OutOfMemory>
     requires sound { IsSound checked.now }
     requires run { IsRunOf checked.now run.old }
-    requires gives { IsTrue (gives_fit_in block.now) }
+    requires gives { IsTrue (statements_give block.now) }
     ensures way { IfOk result (λ ending. way_of ending (locals_of locals.new) ≡ end_of (turns count 0 name.now.text (statements checked.now block.now) (locals_of locals.old)) (moment_of run.old)) }
     ensures still { OnOk result (IsRunOf checked.now run.new) }
     ensures moment { OnOk result (moment_of run.new ≡ behind (turns count 0 name.now.text (statements checked.now block.now) (locals_of locals.old)) (moment_of run.old)) }

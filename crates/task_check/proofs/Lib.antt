@@ -7,7 +7,9 @@ pub mod Folds
 pub mod GiveParts
 pub mod LeastParts
 pub mod LoopParts
+pub mod Messages
 pub mod Midst
+pub mod NoPlaces
 pub mod Numbered
 pub mod Places
 pub mod Reading

@@ -24,20 +24,7 @@ use Rattle.task_check.specs.Least.{unless}
 use Rattle.task_check.specs.Numbers.{buffer_size}
 use Rattle.task_check.specs.Sizes.{GivenFits, HasSizes}
 use Rattle.task_check.specs.WellFormed.{IsWellFormed}
-
--- joined lists are empty where both are
-first-empty : {X : Type 0} (xs ys : List X) → xs ++ ys ≡ [] → xs ≡ []
-first-empty [] ys none = refl
-first-empty (x ∷ xs) ys none = absurd cc
-
-second-empty : {X : Type 0} (xs ys : List X) → xs ++ ys ≡ [] → ys ≡ []
-second-empty [] ys none = none
-second-empty (x ∷ xs) ys none = absurd cc
-
--- a rule without a place holds
-held : (holds : Bool) (at : ℕ) → unless holds at ≡ [] → holds ≡ true
-held true at none = refl
-held false at none = absurd cc
+use Rattle.task_check.proofs.NoPlaces.{first-empty, second-empty, held}
 
 -- the words of variables
 

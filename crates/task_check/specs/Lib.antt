@@ -11,6 +11,7 @@ pub mod Least
 pub mod Loops
 pub mod Measures
 pub mod Mentions
+pub mod Messages
 pub mod NameRules
 pub mod Numbers
 pub mod RefusalLaws

@@ -1,7 +1,7 @@
 use Rattle.std.proofs.Common.{◌∷◌, [], ap, refl}
 use Rattle.std.specs.Option.{option_map}
 use Rattle.task_syntax.specs.declared.body.BodyId.TheVariants.{Task, Top, Bottom}
-use Rattle.codegen.specs.Bodies.{task_body, top_half, bottom_half}
+use Rattle.task_check.specs.Bodies.{task_body, top_half, bottom_half}
 use Rattle.codegen.proofs.laws.accepted_programs_compute_their_courses.Goals as goal
 
 pub returns-clause-tasks : goal.returns-clause-tasks

@@ -2,7 +2,8 @@ use Rattle.std.proofs.Common.{◌++◌, ap, ◌∙◌, append_assoc}
 use Rattle.std.specs.Prelude.{codes}
 use Rattle.std.specs.Option.{option_map}
 use Rattle.std.proofs.lemmas.Result.{on_ok_weaker}
-use Rattle.codegen.specs.Bodies.{top_half, bottom_half, words_of_body}
+use Rattle.task_check.specs.Bodies.{top_half, bottom_half}
+use Rattle.codegen.specs.Bodies.{words_of_body}
 use Rattle.codegen.specs.Listing.{body_lines}
 use Rattle.codegen.proofs.lister.put_event.Goals as goal
 

@@ -2,7 +2,7 @@ use Rattle.std.proofs.Common.{◌++◌, ap, ◌∙◌}
 use Rattle.std.specs.Prelude.{codes}
 use Rattle.std.specs.Option.{option_map}
 use Rattle.std.proofs.lemmas.Result.{on_ok_weaker}
-use Rattle.codegen.specs.Bodies.{task_body}
+use Rattle.task_check.specs.Bodies.{task_body}
 use Rattle.codegen.specs.Listing.{body_lines}
 use Rattle.codegen.proofs.lister.put_task.Goals as goal
 

@@ -1,12 +1,13 @@
 use Rattle.std.proofs.Common.{◌≡◌, length, true, refl, sym, ap, ◌∙◌, subst, arith}
 use Rattle.std.specs.Prelude.{Option, Some, None, is_some}
+use Rattle.task_check.specs.Bodies.{BodyRead}
 use Rattle.word_code.specs.Code.{HasBody, body_words}
-use Rattle.codegen.specs.Bodies.{Body, body_of}
+use Rattle.codegen.specs.Bodies.{body_of}
 use Rattle.codegen.proofs.Numbers.{fits_by_number}
 use Rattle.codegen.proofs.Sizes.{has_its_words}
 use Rattle.codegen.proofs.lister.words_of.Goals as goal
 
-known : (found : Option Body) → is_some found ≡ true → (body : Body) × (found ≡ Some body)
+known : (found : Option BodyRead) → is_some found ≡ true → (body : BodyRead) × (found ≡ Some body)
 known None some = absurd cc
 known (Some body) some = (body, refl)
 

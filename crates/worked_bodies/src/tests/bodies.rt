@@ -11,7 +11,7 @@ use std::process::Abort;
 use std::test::Fail;
 use task_syntax::BodyId;
 
-const SOURCES: [&str; 10] = [
+const SOURCES: [&str; 11] = [
     "nv n = 0; task main { n = n + 1; if n < 3 { next main; } else { halt; } }",
     "nv n; task main { n = n + 1; next main; }",
     "nv a = 1; transaction t { task p { a = a + 1; next q; } task q { a = a * 10; halt; } }",
@@ -24,6 +24,8 @@ const SOURCES: [&str; 10] = [
         transaction t { task p { a = 5; next q; } task q { b = a; halt; } }",
     "nv a = 1; nv b = 0; buffer 2; event e(v) { top { give v; } bottom(x) { a = a + x; } } \
         task p { b = b + 1; halt; }",
+    "nv a = 1; nv b = 2; buffer 2; event e(v) { top { give v; } bottom(x) { b = a + x; } } \
+        task p { a = 7; b = 8; halt; }",
     "nv a[8] = {10,11,12,13,14,15,16,17}; nv r[5]; task m { r[0] = a[9]; r[1] = 7 / 0; \
         r[2] = 1 << 16; r[3] = 65535 + 1; r[4] = 7 % 0; halt; }",
     "nv s[16]; nv w; nv sum; nv left = 2; buffer 4; \

@@ -41,18 +41,9 @@ fn put_units(
     ensures { OnOk result (code.new ≡ with_bodies (map (task_words checked.now) (flat_map tasks_of_unit units.now)) code.old) }
 {
     for unit in units {
-        put_tasks(alloc, checked, tasks_of(unit), code)?;
+        put_tasks(alloc, checked, unit.tasks(), code)?;
     }
     Ok(())
-}
-
-fn tasks_of(unit: &UnitDecl) -> &[TaskDecl]
-    ensures { result.now ≡ tasks_of_unit unit.now }
-{
-    match unit {
-        UnitDecl::Lone(task) => slice::from_ref(task),
-        UnitDecl::Tx(tx) => tx.tasks.as_slice(),
-    }
 }
 
 /// Adds the bodies of tasks.

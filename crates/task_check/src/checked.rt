@@ -8,6 +8,7 @@ ghost use Rattle.task_check.specs.Numbers.{buffer_size, event_of, first_and_leng
 ghost use Rattle.task_check.specs.Sizes.{HasSizes};
 ghost use Rattle.task_check.specs.WellFormed.{IsWellFormed};
 
+use crate::counts::task_at;
 use crate::lookups;
 use coati_word::limits::DEFAULT_BUFFER;
 use std::marker::Model;
@@ -128,8 +129,10 @@ impl Checked {
         requires { task < length (tasks self.now) }
         ensures { slice_get (tasks self.now) task ≡ Some result.now }
     {
-        let program = self.program();
-        lookups::task(program.units.as_slice(), task)
+        match task_at(self.program(), usize::from(task)) {
+            Some(found) => found,
+            None => unreachable!(),
+        }
     }
 
     /// The event of a number.

@@ -6,6 +6,6 @@ mod values;
 mod words;
 
 pub(crate) use buffer::bad_buffer;
-pub(crate) use tasks::too_many_tasks;
+pub(crate) use tasks::{task_at, too_many_tasks};
 pub(crate) use values::{bad_count, bad_turns};
 pub(crate) use words::too_many_words;

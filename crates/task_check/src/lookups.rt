@@ -83,22 +83,6 @@ pub(crate) fn tasks(units: &[UnitDecl]) -> u16
     tasks
 }
 
-/// The task of a number.
-pub(crate) fn task(units: &[UnitDecl], number: u16) -> &TaskDecl
-    requires { number < length (flat_map tasks_of_unit units.now) }
-    ensures { slice_get (flat_map tasks_of_unit units.now) number ≡ Some result.now }
-{
-    let mut left = usize::from(number);
-    for unit in units {
-        let tasks = unit.tasks();
-        if left < tasks.len() {
-            return &tasks[left];
-        }
-        left -= tasks.len();
-    }
-    unreachable!()
-}
-
 /// The number of the task of a name.
 pub(crate) fn task_of(units: &[UnitDecl], name: &NameText) -> Option<u16>
     requires { length (flat_map tasks_of_unit units.now) ≤ 64 }

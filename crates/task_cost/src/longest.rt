@@ -13,19 +13,9 @@ pub(crate) fn longest_task(program: &Program) -> u32
 {
     let mut longest = 0;
     for unit in program.units.as_slice() {
-        longest = longest.max(longest_in_unit(program, unit));
+        longest = longest.max(longest_of(program, unit.tasks()));
     }
     longest
-}
-
-/// The greatest cost of a task of the unit.
-fn longest_in_unit(program: &Program, unit: &UnitDecl) -> u32
-    ensures { result ≡ saturated (greatest (map (task_cost program.now) (tasks_of_unit unit.now))) }
-{
-    match unit {
-        UnitDecl::Lone(task) => cost(program, task.body.as_slice(), Kind::Task),
-        UnitDecl::Tx(tx) => longest_of(program, tx.tasks.as_slice()),
-    }
 }
 
 /// The greatest cost of one of these tasks.

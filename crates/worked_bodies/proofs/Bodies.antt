@@ -3,8 +3,6 @@ use Rattle.std.proofs.Common.{◌≡◌, ℕ, List, [], ◌∷◌, length, refl,
 use Rattle.std.specs.Prelude.{Option, Some, None, slice_get, unwrap_or}
 use Rattle.std.specs.Option.{option_map, option_map_or}
 use Rattle.std.proofs.lemmas.Option.{none-some}
-use Rattle.coati_word.specs.declared.ending.Ending.{Ending}
-use Rattle.coati_word.specs.declared.reading.Reading.{Reading}
 use Rattle.task_syntax.specs.declared.body.BodyId.{BodyId}
 use Rattle.task_syntax.specs.declared.body.BodyId.TheVariants.{Task, Top, Bottom}
 use Rattle.task_syntax.specs.declared.program.Event.{Event}
@@ -13,7 +11,7 @@ use Rattle.task_syntax.specs.declared.program.TaskDecl.{TaskDecl}
 use Rattle.task_syntax.specs.Cost.{body_cost}
 use Rattle.task_syntax.specs.Names.{tasks, word_count}
 use Rattle.task_cost.specs.Bodies.{cost_of, task_cost, top_cost, bottom_cost}
-use Rattle.word_code.specs.Code.{Bodies, HasBody, body_words}
+use Rattle.word_code.specs.Code.{Bodies, body_words}
 use Rattle.word_code.specs.Following.{Computes}
 use Rattle.task_check.specs.Bodies.{BodyRead, task_body, top_half, bottom_half}
 use Rattle.codegen.specs.Bodies.{EachFits, body_of, program_code}

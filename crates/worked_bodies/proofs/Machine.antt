@@ -1,10 +1,10 @@
 -- A machine that goes on, and what it tells in the end.
-use Rattle.std.proofs.Common.{◌≡◌, ℕ, ◌+◌, List, ◌++◌, Bool, length, refl, sym, ap, subst, ◌∙◌}
+use Rattle.std.proofs.Common.{◌≡◌, ℕ, ◌+◌, List, ◌++◌, Bool, length, sym, ap, subst, ◌∙◌}
 use Rattle.std.specs.Prelude.{slice_index}
 use Rattle.coati_word.specs.declared.ending.Ending.{Ending}
 use Rattle.coati_word.specs.declared.reading.Reading.{Reading}
 use Rattle.task_syntax.specs.declared.body.BodyId.{BodyId}
-use Rattle.task_syntax.specs.Course.{Course, Access, accesses, after, answer, readings}
+use Rattle.task_syntax.specs.Course.{Course, Access, after, readings}
 use Rattle.word_code.specs.Code.{Bodies}
 use Rattle.word_code.specs.Machine.{move_of}
 use Rattle.word_cpu.specs.declared.cpu.Cpu.{Cpu}

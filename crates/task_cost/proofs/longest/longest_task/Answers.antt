@@ -9,7 +9,7 @@ use Rattle.task_cost.proofs.longest.longest_task.Goals as goal
 
 pub loop-unit-preserved : goal.loop-unit-preserved
 loop-unit-preserved c =
-    turn _ _ (of_held tasks_of_unit (task_cost c.args.program.now)) c.as_slice-unit-items.result.now c.loop-unit.unit-index c.unit-item.result c.loop-unit.longest c.longest_in_unit.result c.max-longest.result
+    turn _ _ (of_held tasks_of_unit (task_cost c.args.program.now)) c.as_slice-unit-items.result.now c.loop-unit.unit-index c.unit-item.result c.loop-unit.longest c.longest_of.result c.max-longest.result
     (omega arith) c.unit-item.is (search rules) (search rules) c.loop-unit.invariant
 
 pub returns : goal.returns

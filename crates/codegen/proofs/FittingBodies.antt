@@ -18,7 +18,7 @@ use Rattle.codegen.proofs.FittingMeasures.{no_empty_array, few_locals, shallow, 
 use Rattle.codegen.proofs.FittingNames.{task_names, event_names}
 use Rattle.codegen.proofs.FittingTurns.{few_turns}
 use Rattle.codegen.proofs.KeptRules.{KeepsRules, each_task, each_event}
-use Rattle.codegen.proofs.NoPlaces.{test-holds}
+use Rattle.task_check.proofs.NoPlaces.{held}
 use Rattle.codegen.proofs.Parted.{all-joined}
 use Rattle.codegen.proofs.SparedLoops.{loops_spared}
 
@@ -32,7 +32,7 @@ module _ (program : Program) (accepted : IsAccepted program) (messages : HasShor
     loops = loops_spared program body keeps;
     turns = few_turns program body keeps;
     gives = gives;
-    ending = test-holds (has_ending body.kind body.statements) body.at keeps.ending;
+    ending = held (has_ending body.kind body.statements) body.at keeps.ending;
     locals = few_locals program body keeps;
     depth = shallow program body keeps;
     short = short program body keeps;

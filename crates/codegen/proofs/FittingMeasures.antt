@@ -16,7 +16,8 @@ use Rattle.task_check.specs.Accepted.{IsAccepted}
 use Rattle.task_check.specs.Bodies.{BodyRead, bodies}
 use Rattle.task_check.specs.Counts.{bad_var, bad_turns, length_fits, init_fits}
 use Rattle.task_check.specs.Measures.{size_of}
-use Rattle.codegen.proofs.NoPlaces.{none-left, none-each, test-holds, test-fails, bound-holds, first-test}
+use Rattle.task_check.proofs.NoPlaces.{first-empty, held}
+use Rattle.codegen.proofs.NoPlaces.{none-each, test-fails, bound-holds, first-test}
 use Rattle.codegen.proofs.KeptRules.{KeepsRules}
 
 module _ (program : Program) (body : BodyRead) (keeps : KeepsRules program body) where
@@ -45,6 +46,6 @@ some-words (Some length) fits = positive length fits
 pub no_empty_array : (program : Program) → IsAccepted program → HasNoEmptyArray program
 no_empty_array program accepted =
     All-weaker (λ (var : Var). bad_var var ≡ []) (λ (var : Var). 0 < count_of var.length)
-    (λ var none. some-words var.length (first-test (length_fits var.length) (init_fits var.length var.init) (test-holds (length_fits var.length && init_fits var.length var.init) var.name.at none)))
+    (λ var none. some-words var.length (first-test (length_fits var.length) (init_fits var.length var.init) (held (length_fits var.length && init_fits var.length var.init) var.name.at none)))
     program.vars
-    (none-each bad_var program.vars (none-left (flat_map bad_var program.vars) (flat_map bad_turns (bodies program)) (accepted 4 (omega arith) (omega arith))))
+    (none-each bad_var program.vars (first-empty (flat_map bad_var program.vars) (flat_map bad_turns (bodies program)) (accepted 4 (omega arith) (omega arith))))

@@ -12,7 +12,8 @@ use Rattle.task_check.specs.Counts.{is_between, bad_loops, bad_loops_step, bad_l
 use Rattle.task_check.specs.Least.{unless}
 use Rattle.codegen.specs.Fit.{statement_turns_step, statement_turns, statements_turns}
 use Rattle.codegen.proofs.Trees.{StatementCases, AllOtherwise, every_statement_of}
-use Rattle.codegen.proofs.NoPlaces.{none-left, none-right, test-holds, second-test, both-tests}
+use Rattle.task_check.proofs.NoPlaces.{first-empty, second-empty, held}
+use Rattle.codegen.proofs.NoPlaces.{second-test, both-tests}
 use Rattle.codegen.proofs.KeptRules.{KeepsRules}
 
 -- a statement without a loop of another count
@@ -27,23 +28,23 @@ block-turns : (block : List Stmt) → AllByRecursion Turns block → bad_loops_a
 block-turns [] each none = refl
 block-turns (first ∷ more) each none =
     both-tests (statement_turns first) (statements_turns more)
-    (each.0 (none-left (bad_loops first) (bad_loops_among more) none)) (block-turns more each.1 (none-right (bad_loops first) (bad_loops_among more) none))
+    (each.0 (first-empty (bad_loops first) (bad_loops_among more) none)) (block-turns more each.1 (second-empty (bad_loops first) (bad_loops_among more) none))
 
 chosen-turns : (condition : Expr) (block : List Stmt) (other : Option (List Stmt)) → AllByRecursion Turns block → AllOtherwise Turns other →
     Turns (S.roll-Stmt (S.Stmt-F.If condition block other))
 chosen-turns condition block None each rest = rolled (S.Stmt-F.If condition block None) (λ none.
-    both-tests (statements_turns block) true (block-turns block each (none-left (bad_loops_among block) [] none)) refl)
+    both-tests (statements_turns block) true (block-turns block each (first-empty (bad_loops_among block) [] none)) refl)
 chosen-turns condition block (Some other) each rest = rolled (S.Stmt-F.If condition block (Some other)) (λ none.
     both-tests (statements_turns block) (statements_turns other)
-    (block-turns block each (none-left (bad_loops_among block) (bad_loops_among other) none))
-    (block-turns other rest (none-right (bad_loops_among block) (bad_loops_among other) none)))
+    (block-turns block each (first-empty (bad_loops_among block) (bad_loops_among other) none))
+    (block-turns other rest (second-empty (bad_loops_among block) (bad_loops_among other) none)))
 
 repeated-turns : (name : Name) (count : ℕ) (block : List Stmt) → AllByRecursion Turns block → Turns (S.roll-Stmt (S.Stmt-F.Repeat name count block))
 repeated-turns name count block each = rolled (S.Stmt-F.Repeat name count block) (λ none.
     let here = unless (is_between 1 50000 count) name.at in
     both-tests (nat_le count 50000) (statements_turns block)
-    (second-test (nat_le 1 count) (nat_le count 50000) (test-holds (is_between 1 50000 count) name.at (none-left here (bad_loops_among block) none)))
-    (block-turns block each (none-right here (bad_loops_among block) none)))
+    (second-test (nat_le 1 count) (nat_le count 50000) (held (is_between 1 50000 count) name.at (first-empty here (bad_loops_among block) none)))
+    (block-turns block each (second-empty here (bad_loops_among block) none)))
 
 turns : StatementCases Turns
 turns = record {

@@ -14,7 +14,8 @@ use Rattle.task_check.specs.Endings.{no_ending}
 use Rattle.task_check.specs.Loops.{loop_assigned}
 use Rattle.task_check.specs.Measures.{too_many_locals, too_deep_stack, too_long}
 use Rattle.codegen.proofs.Parted.{all-left, all-right}
-use Rattle.codegen.proofs.NoPlaces.{none-right, none-each}
+use Rattle.task_check.proofs.NoPlaces.{second-empty}
+use Rattle.codegen.proofs.NoPlaces.{none-each}
 
 -- a body breaks none of the rules that are read in it
 pub record KeepsRules (program : Program) (body : BodyRead) : Type 0 where
@@ -37,7 +38,7 @@ none-mapped f (x ∷ xs) none = absurd (cc)
 module _ (program : Program) (accepted : IsAccepted program) where
   pub each_body : All (KeepsRules program) (bodies program)
   each_body k d within = record {
-    turns = none-each bad_turns (bodies program) (none-right (flat_map bad_var program.vars) (flat_map bad_turns (bodies program)) (accepted 4 (omega arith) (omega arith))) k d within;
+    turns = none-each bad_turns (bodies program) (second-empty (flat_map bad_var program.vars) (flat_map bad_turns (bodies program)) (accepted 4 (omega arith) (omega arith))) k d within;
     ending = none-each no_ending (bodies program) (accepted 8 (omega arith) (omega arith)) k d within;
     loops = none-each loop_assigned (bodies program) (accepted 13 (omega arith) (omega arith)) k d within;
     locals = none-each too_many_locals (bodies program) (accepted 14 (omega arith) (omega arith)) k d within;

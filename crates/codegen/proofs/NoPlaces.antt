@@ -1,32 +1,19 @@
 -- What it says that a rule is broken nowhere: that no part of what was found has a place.
-use Rattle.std.proofs.Common.{◌≡◌, ℕ, ◌≤◌, List, [], ◌∷◌, ◌++◌, refl, arith}
+use Rattle.std.proofs.Common.{◌≡◌, ℕ, ◌≤◌, List, [], ◌∷◌, refl, arith}
 use Rattle.std.specs.Prelude.{Bool, true, false, ◌&&◌, nat_lt, flat_map, All, if◌then◌else◌}
 use Rattle.std.proofs.lemmas.Bool.Decides.{nat_tests}
 use Rattle.std.proofs.lemmas.List.Elements.{All-nil, All-cons}
-use Rattle.task_check.specs.Least.{unless}
 use Rattle.task_check.specs.Measures.{above}
-
--- of two parts
-pub none-left : {A : Type 0} (xs ys : List A) → xs ++ ys ≡ [] → xs ≡ []
-none-left [] ys none = refl
-none-left (x ∷ xs) ys none = absurd (cc)
-
-pub none-right : {A : Type 0} (xs ys : List A) → xs ++ ys ≡ [] → ys ≡ []
-none-right [] ys none = none
-none-right (x ∷ xs) ys none = absurd (cc)
+use Rattle.task_check.proofs.NoPlaces.{first-empty, second-empty}
 
 -- of each of several
 module _ {X A : Type 0} (found : X → List A) where
   pub none-each : (xs : List X) → flat_map found xs ≡ [] → All (λ x. found x ≡ []) xs
   none-each [] none = All-nil (λ x. found x ≡ [])
   none-each (x ∷ xs) none =
-      All-cons (λ x. found x ≡ []) x xs (none-left (found x) (flat_map found xs) none) (none-each xs (none-right (found x) (flat_map found xs) none))
+      All-cons (λ x. found x ≡ []) x xs (first-empty (found x) (flat_map found xs) none) (none-each xs (second-empty (found x) (flat_map found xs) none))
 
--- where a test decides whether a place is one
-pub test-holds : (holds : Bool) (at : ℕ) → unless holds at ≡ [] → holds ≡ true
-test-holds true at none = refl
-test-holds false at none = absurd (cc)
-
+-- where a test decides whether there is something
 pub test-fails : {A : Type 0} (holds : Bool) (x : A) → (if holds then x ∷ [] else []) ≡ [] → holds ≡ false
 test-fails true x none = absurd (cc)
 test-fails false x none = refl

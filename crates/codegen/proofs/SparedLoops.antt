@@ -13,7 +13,8 @@ use Rattle.task_check.specs.Bodies.{BodyRead}
 use Rattle.task_check.specs.Loops.{Within, is_among, place_among, plain_name, plain_step, nothing_step, assigned_in, assigned_step, assigned_in_block}
 use Rattle.codegen.specs.Fit.{Sparing, place_spares, place_spares_step, expression_spares_step, statement_spares, statement_spares_step, statements_spare}
 use Rattle.codegen.proofs.Trees.{every_place, StatementCases, AllOtherwise, every_statement_of}
-use Rattle.codegen.proofs.NoPlaces.{none-left, none-right, both-tests}
+use Rattle.task_check.proofs.NoPlaces.{first-empty, second-empty}
+use Rattle.codegen.proofs.NoPlaces.{both-tests}
 use Rattle.codegen.proofs.KeptRules.{KeepsRules}
 
 -- a place to which no loop's name is assigned
@@ -59,17 +60,17 @@ block-spares : (block : List Stmt) → AllByRecursion Spares block → (loops : 
 block-spares [] each loops none = refl
 block-spares (first ∷ more) each loops none =
     both-tests (statement_spares first loops) (statements_spare more loops)
-    (each.0 loops (none-left (assigned_in first loops) (assigned_in_block more loops) none))
-    (block-spares more each.1 loops (none-right (assigned_in first loops) (assigned_in_block more loops) none))
+    (each.0 loops (first-empty (assigned_in first loops) (assigned_in_block more loops) none))
+    (block-spares more each.1 loops (second-empty (assigned_in first loops) (assigned_in_block more loops) none))
 
 chosen-spares : (condition : Expr) (block : List Stmt) (other : Option (List Stmt)) → AllByRecursion Spares block → AllOtherwise Spares other →
     Spares (S.roll-Stmt (S.Stmt-F.If condition block other))
 chosen-spares condition block None each rest = rolled (S.Stmt-F.If condition block None) (λ loops none.
-    both-tests (statements_spare block loops) true (block-spares block each loops (none-left (assigned_in_block block loops) [] none)) refl)
+    both-tests (statements_spare block loops) true (block-spares block each loops (first-empty (assigned_in_block block loops) [] none)) refl)
 chosen-spares condition block (Some other) each rest = rolled (S.Stmt-F.If condition block (Some other)) (λ loops none.
     both-tests (statements_spare block loops) (statements_spare other loops)
-    (block-spares block each loops (none-left (assigned_in_block block loops) (assigned_in_block other loops) none))
-    (block-spares other rest loops (none-right (assigned_in_block block loops) (assigned_in_block other loops) none)))
+    (block-spares block each loops (first-empty (assigned_in_block block loops) (assigned_in_block other loops) none))
+    (block-spares other rest loops (second-empty (assigned_in_block block loops) (assigned_in_block other loops) none)))
 
 spares : StatementCases Spares
 spares = record {

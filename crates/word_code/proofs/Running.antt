@@ -84,12 +84,12 @@ has_effect words count cost params course computes store =
     }
 
 -- the instruction of what was decoded
-abbrev found_in : Instr → Option (Instr × ℕ) → Instr
+abbrev pub found_in : Instr → Option (Instr × ℕ) → Instr
 found_in other None = other
 found_in other (Some found) = found.0
 
 -- at most one instruction starts at a place
-one_starts : (words : List ℕ) (first second : Instr) (s : State) → StartsAt words first s → StartsAt words second s → first ≡ second
+pub one_starts : (words : List ℕ) (first second : Instr) (s : State) → StartsAt words first s → StartsAt words second s → first ≡ second
 one_starts words first second s one other = ap (found_in first) (sym one ∙ other)
 
 -- the state that was come to

@@ -1,10 +1,11 @@
 -- A store under way stays so until it is made.
 use Rattle.std.proofs.Common.{◌≡◌, ◌<◌, ℕ, zero, suc, List, Bool, refl, sym, ap, subst, ◌∙◌, arith}
-use Rattle.std.specs.Prelude.{Option, Some, None}
+use Rattle.std.specs.Prelude.{Some, None}
 use Rattle.task_syntax.specs.declared.body.BodyId.{BodyId}
 use Rattle.word_code.specs.Code.{Bodies, body_words}
 use Rattle.word_code.specs.declared.instruction.Instr.{Instr}
 use Rattle.word_code.specs.Machine.{State, Move, move_of, StartsAt}
+use Rattle.word_code.proofs.Running.{one_starts}
 use Rattle.word_cpu.specs.declared.cpu.Cpu.{Cpu}
 use Rattle.word_cpu.specs.declared.turn.Turn.{Turn}
 use Rattle.word_cpu.specs.declared.turn.Turn.TheVariants.{Went, Storing, Ended}
@@ -18,15 +19,6 @@ none_made begun part move is_0 some = absurd (omega (arith, is_0, some))
 pub not_above_0 : {n : ℕ} → (0 < n → ⊥) → n ≡ 0
 not_above_0 {n = zero} none = refl
 not_above_0 {n = suc n} none = absurd (none (omega arith))
-
--- the instruction of what was decoded
-abbrev found_in : Instr → Option (Instr × ℕ) → Instr
-found_in other None = other
-found_in other (Some found) = found.0
-
--- at most one instruction starts in a state
-pub one_starts : (words : List ℕ) (first second : Instr) (s : State) → StartsAt words first s → StartsAt words second s → first ≡ second
-one_starts words first second s one other = ap (found_in first) (sym one ∙ other)
 
 -- what holds of the move of the instruction that starts in the machine's state
 pub for_the_move : (code : Bodies) (cpu : Cpu) (instr : Instr) (Fact : Move → Type 0) → StartsAt (body_words code cpu.body) instr (state_of cpu) →

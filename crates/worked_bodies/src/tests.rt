@@ -1,9 +1,5 @@
 mod bodies;
-mod compiled;
 mod evaluator;
-mod machine;
-mod noted_words;
-mod plain_words;
 
 use coati_top::spelled_programs_are_well_formed;
 use std::alloc::Global;

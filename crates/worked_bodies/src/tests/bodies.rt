@@ -2,8 +2,8 @@ ghost use Rattle.std.specs.Prelude.{◌≡◌, ◌<◌, ◌≤◌, IfOk, length}
 ghost use Rattle.task_syntax.specs.Names.{tasks, word_count};
 ghost use Rattle.worked_bodies.specs.Bodies.{HasBodyFor};
 
-use super::compiled::Compiled;
-use super::machine::Ran;
+use super::accepted;
+use crate::{Compiled, Ran};
 use coati_word::{Ending, Message, Reading};
 use serial_run::{Outcome, SerialStore};
 use std::alloc::Global;
@@ -35,79 +35,83 @@ const SOURCES: [&str; 11] = [
         task put { sum = sum >> 4; if left == 0 { halt; } else { next start; } } }",
 ];
 
-impl Compiled {
-    /// Runs a body over both views, which come to the same, and answers what it did and the words that it left.
-    fn run_on_both(
-        &self,
-        rt: &impl Abort,
-        alloc: Global,
-        body: BodyId,
-        params: &[u16],
-    ) -> Result<(Ran, Vec<u16>), Fail>
-        requires body { HasBodyFor self.now.checked body params.now }
-        requires few { length params.now ≤ 4 }
-        ensures { IfOk result (λ ran. length ran.1.items ≡ word_count self.now.checked.vars) }
-    {
-        let mut plain = self.plain(alloc)?;
-        let ran = self.run(alloc, body, params, &mut plain)?;
-        let mut noted = self.noted(alloc)?;
-        let other = self.run(alloc, body, params, &mut noted)?;
-        assert_eq!(rt; other.ending, ran.ending);
-        assert_eq!(rt; other.readings.as_slice(), ran.readings.as_slice());
-        assert_eq!(rt; noted.words.as_slice(), plain.words.as_slice());
-        Ok((ran, plain.words))
-    }
+/// The program of a source, with its code.
+fn compiled(rt: &impl Abort, alloc: Global, source: &str) -> Result<Compiled, Fail> {
+    let checked = accepted(rt, alloc, source.as_bytes())?;
+    Ok(Compiled::new(alloc, checked)?)
+}
 
-    /// The machine does in a task what the evaluator does.
-    fn compare_task(&self, rt: &impl Abort, alloc: Global, task: u16) -> Result<(), Fail>
-        requires { task < length (tasks self.now.checked) }
-    {
-        let _task = self.checked.task(task);
-        let ran = self.run_on_both(rt, alloc, BodyId::Task(task), &[])?;
-        let opening = SerialStore::opening(alloc, &self.checked)?;
-        let evaluated = opening.run_task(&self.checked, task)?;
-        self.compare(rt, ran, evaluated)
-    }
+/// Runs a body over both views, which come to the same, and answers what it did and the words that it left.
+fn run_on_both(
+    rt: &impl Abort,
+    alloc: Global,
+    compiled: &Compiled,
+    body: BodyId,
+    params: &[u16],
+) -> Result<(Ran, Vec<u16>), Fail>
+    requires body { HasBodyFor compiled.now.checked body params.now }
+    requires few { length params.now ≤ 4 }
+    ensures { IfOk result (λ ran. length ran.1.items ≡ word_count compiled.now.checked.vars) }
+{
+    let mut plain = compiled.plain(alloc)?;
+    let ran = compiled.run(alloc, body, params, &mut plain)?;
+    let mut noted = compiled.noted(alloc)?;
+    let other = compiled.run(alloc, body, params, &mut noted)?;
+    assert_eq!(rt; other.ending, ran.ending);
+    assert_eq!(rt; other.readings.as_slice(), ran.readings.as_slice());
+    assert_eq!(rt; noted.words.as_slice(), plain.words.as_slice());
+    Ok((ran, plain.words))
+}
 
-    /// The machine does in the two halves of an event what the evaluator does.
-    fn compare_event(
-        &self,
-        rt: &impl Abort,
-        alloc: Global,
-        event: u16,
-        argument: u16,
-    ) -> Result<(), Fail>
-        requires { event < length self.now.checked.events }
-    {
-        let declared = self.checked.event(event);
-        let (top, _) = self.run_on_both(rt, alloc, BodyId::Top(event), &[argument])?;
-        let message = given(rt, top.ending);
-        let words = message.as_slice();
-        assert!(rt; words.len() == declared.params.len());
-        let ran = self.run_on_both(rt, alloc, BodyId::Bottom(event), words)?;
-        let opening = SerialStore::opening(alloc, &self.checked)?;
-        let evaluated = opening.run_event(&self.checked, event, argument)?;
-        self.compare(rt, ran, evaluated)
-    }
+/// The machine does in a task what the evaluator does.
+fn compare_task(rt: &impl Abort, alloc: Global, compiled: &Compiled, task: u16) -> Result<(), Fail>
+    requires { task < length (tasks compiled.now.checked) }
+{
+    let _task = compiled.checked.task(task);
+    let ran = run_on_both(rt, alloc, compiled, BodyId::Task(task), &[])?;
+    let opening = SerialStore::opening(alloc, &compiled.checked)?;
+    let evaluated = opening.run_task(&compiled.checked, task)?;
+    compare(rt, compiled, ran, evaluated)
+}
 
-    fn compare(
-        &self,
-        rt: &impl Abort,
-        ran: (Ran, Vec<u16>),
-        evaluated: (SerialStore, Outcome),
-    ) -> Result<(), Fail>
-        requires words { length ran.1.items ≡ word_count self.now.checked.vars }
-        requires store { length evaluated.0 ≡ word_count self.now.checked.vars }
-    {
-        let (ran, words) = ran;
-        let (store, outcome) = evaluated;
-        assert_eq!(rt; ran.ending, outcome.ending);
-        assert_eq!(rt; ran.readings.as_slice(), outcome.readings.as_slice());
-        for word in 0..self.checked.words() {
-            assert_eq!(rt; words[usize::from(word)], store.get(word), "word {word}");
-        }
-        Ok(())
+/// The machine does in the two halves of an event what the evaluator does.
+fn compare_event(
+    rt: &impl Abort,
+    alloc: Global,
+    compiled: &Compiled,
+    event: u16,
+    argument: u16,
+) -> Result<(), Fail>
+    requires { event < length compiled.now.checked.events }
+{
+    let declared = compiled.checked.event(event);
+    let (top, _) = run_on_both(rt, alloc, compiled, BodyId::Top(event), &[argument])?;
+    let message = given(rt, top.ending);
+    let words = message.as_slice();
+    assert!(rt; words.len() == declared.params.len());
+    let ran = run_on_both(rt, alloc, compiled, BodyId::Bottom(event), words)?;
+    let opening = SerialStore::opening(alloc, &compiled.checked)?;
+    let evaluated = opening.run_event(&compiled.checked, event, argument)?;
+    compare(rt, compiled, ran, evaluated)
+}
+
+fn compare(
+    rt: &impl Abort,
+    compiled: &Compiled,
+    ran: (Ran, Vec<u16>),
+    evaluated: (SerialStore, Outcome),
+) -> Result<(), Fail>
+    requires words { length ran.1.items ≡ word_count compiled.now.checked.vars }
+    requires store { length evaluated.0 ≡ word_count compiled.now.checked.vars }
+{
+    let (ran, words) = ran;
+    let (store, outcome) = evaluated;
+    assert_eq!(rt; ran.ending, outcome.ending);
+    assert_eq!(rt; ran.readings.as_slice(), outcome.readings.as_slice());
+    for word in 0..compiled.checked.words() {
+        assert_eq!(rt; words[usize::from(word)], store.get(word), "word {word}");
     }
+    Ok(())
 }
 
 /// The message that a top half gave.
@@ -121,13 +125,13 @@ fn given(rt: &impl Abort, ending: Ending) -> Message {
 #[test]
 fn the_machine_does_what_the_evaluator_does(rt: HostRuntime) -> Result<(), Fail> {
     for source in SOURCES {
-        let compiled = Compiled::of(&rt, rt.alloc(), source)?;
+        let compiled = compiled(&rt, rt.alloc(), source)?;
         for task in 0..compiled.checked.tasks() {
-            compiled.compare_task(&rt, rt.alloc(), task)?;
+            compare_task(&rt, rt.alloc(), &compiled, task)?;
         }
         for event in 0..compiled.checked.events() {
             for argument in [0, 5, 65535] {
-                compiled.compare_event(&rt, rt.alloc(), event, argument)?;
+                compare_event(&rt, rt.alloc(), &compiled, event, argument)?;
             }
         }
     }
@@ -137,7 +141,7 @@ fn the_machine_does_what_the_evaluator_does(rt: HostRuntime) -> Result<(), Fail>
 #[test]
 fn a_store_is_one_step_or_three(rt: HostRuntime) -> Result<(), Fail> {
     let alloc = rt.alloc();
-    let compiled = Compiled::of(
+    let compiled = compiled(
         &rt,
         alloc,
         "nv n = 65535; nv m = 9; nv a[3] = {9, 9, 9}; task t { m = n + 3; a[5] = 7; n = a[8]; halt; }",

@@ -1,5 +1,3 @@
-//! Runs of the word machine from the start of a body to its end.
-
 ghost use Rattle.std.specs.Prelude.{◌≡◌, ◌≤◌, ◌++◌, IfNone, IfOk, IfSome, OnOk, length};
 ghost use Rattle.coati_word.specs.declared.ending.Ending.{Ending};
 ghost use Rattle.task_syntax.specs.Course.{Course};
@@ -10,8 +8,8 @@ ghost use Rattle.word_cpu.specs.OnCourse.{read_by};
 ghost use Rattle.word_cpu.specs.Reached.{IsUnderWay};
 ghost use Rattle.worked_bodies.specs.Bodies.{TellsWhatIsComputed};
 
-use coati_word::{Ending, Reading};
-use std::alloc::{AllocError, Global};
+use coati_word::{Ending, OutOfMemory, Reading};
+use std::alloc::Global;
 use task_syntax::BodyId;
 use word_code::Code;
 use word_cpu::laws::machines_keep_to_the_course;
@@ -26,14 +24,14 @@ pub struct Ran {
 }
 
 /// Runs a body to its end, which comes within its cost.
-pub fn run_within<V: View>(
+pub(crate) fn run_within<V: View>(
     alloc: Global,
     code: &Code,
     body: BodyId,
     params: &[u16],
     view: &mut V,
     cost: u32,
-) -> Result<Ran, AllocError>
+) -> Result<Ran, OutOfMemory>
     requires exists { HasBody code.now body }
     requires few { length params.now ≤ 4 }
     requires words { length (V.words view.old) ≤ 256 }
@@ -59,13 +57,13 @@ pub fn run_within<V: View>(
 }
 
 /// Keeps what a step read. It answers how the body ended, where it did.
-fn keep(readings: &mut Vec<Reading>, turn: Turn) -> Result<Option<Ending>, AllocError>
+fn keep(readings: &mut Vec<Reading>, turn: Turn) -> Result<Option<Ending>, OutOfMemory>
     ensures read { OnOk result (readings.new.items ≡ readings.old.items ++ read_by turn) }
     ensures ended { IfOk result (λ end. IfSome end (λ ending. turn ≡ Ended ending)) }
     ensures goes_on { IfOk result (λ end. IfNone end (IsUnderWay turn)) }
 {
     match turn {
-        Turn::Went(Some(reading)) => readings.push(reading)?,
+        Turn::Went(Some(reading)) => readings.push(reading).map_err(|_| OutOfMemory)?,
         Turn::Went(None) | Turn::Storing => {}
         Turn::Ended(ending) => return Ok(Some(ending)),
     }

@@ -1,10 +1,9 @@
-//! Words of which a store takes three steps: its word is noted, then its value, and then it is made. Loads are counted.
-
 ghost use Rattle.std.specs.Prelude.{◌≡◌, ◌+◌, min};
 ghost use Rattle.worked_bodies.specs.Noted.{IsNoted};
 
 use word_cpu::View;
 
+/// Words of which a store takes three steps: its word is noted, then its value, and then it is made. Loads are counted.
 #[derive(Drop)]
 pub struct NotedWords {
     pub words: Vec<u16>,

@@ -1,9 +1,8 @@
-//! Words of which a store is one step.
-
 ghost use Rattle.std.specs.Prelude.{◌≡◌, true, refl, slice_set};
 
 use word_cpu::View;
 
+/// Words of which a store is one step.
 #[derive(Drop)]
 pub struct PlainWords {
     pub words: Vec<u16>,

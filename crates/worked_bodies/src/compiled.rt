@@ -1,28 +1,25 @@
-//! A worked program with its code.
-
 ghost use Rattle.std.specs.Prelude.{◌≡◌, ◌≤◌, IfOk, OnOk, length};
-ghost use Rattle.task_syntax.specs.Names.{word_count};
+ghost use Rattle.task_syntax.specs.Names.{opening_values, word_count};
 ghost use Rattle.task_cost.specs.Bodies.{cost_of};
 ghost use Rattle.codegen.specs.Bodies.{program_code};
 ghost use Rattle.worked_bodies.specs.Bodies.{HasBodyFor, TellsBody};
 
-use super::accepted;
-use super::machine::{Ran, run_within};
-use super::noted_words::NotedWords;
-use super::plain_words::PlainWords;
+use crate::machine::run_within;
+use crate::{NotedWords, PlainWords, Ran};
+use coati_word::OutOfMemory;
 use codegen::compile;
 use codegen::laws::{
     accepted_bodies_fit, bodies_stand_by_number, fitting_bodies_compute_their_course,
 };
-use std::alloc::{AllocError, Global};
-use std::process::Abort;
-use std::test::Fail;
+use serial_run::SerialStore;
+use std::alloc::Global;
 use task_check::Checked;
 use task_cost::body_cost;
 use task_syntax::BodyId;
 use word_code::Code;
 use word_cpu::View;
 
+/// A program with its code.
 #[derive(Drop)]
 pub struct Compiled {
     pub checked: Checked,
@@ -31,24 +28,28 @@ pub struct Compiled {
 }
 
 impl Compiled {
-    /// The program of a source.
-    pub fn of(rt: &impl Abort, alloc: Global, source: &str) -> Result<Compiled, Fail> {
-        let checked = accepted(rt, alloc, source.as_bytes())?;
+    /// The program with its code. It is refused only where memory is.
+    pub fn new(alloc: Global, checked: Checked) -> Result<Compiled, OutOfMemory>
+        ensures { IfOk result (λ compiled. compiled.checked ≡ checked) }
+    {
         let code = compile(alloc, &checked)?;
         Ok(Compiled { checked, code })
     }
 
-    /// What the variable words hold at first, stored to at once.
-    pub fn plain(&self, alloc: Global) -> Result<PlainWords, AllocError>
-        ensures { IfOk result (λ view. length view.words.items ≡ word_count self.now.checked.vars) }
+    /// What the variable words hold at first; each is stored to at once. It is refused only where memory is.
+    pub fn plain(&self, alloc: Global) -> Result<PlainWords, OutOfMemory>
+        ensures words { IfOk result (λ view. view.words.items ≡ opening_values self.now.checked) }
+        ensures count { IfOk result (λ view. length view.words.items ≡ word_count self.now.checked.vars) }
     {
         let words = self.opening(alloc)?;
         Ok(PlainWords { words })
     }
 
-    /// The same, stored to in three parts.
-    pub fn noted(&self, alloc: Global) -> Result<NotedWords, AllocError>
-        ensures { IfOk result (λ view. length view.words.items ≡ word_count self.now.checked.vars) }
+    /// The same, but each is stored to in three parts.
+    pub fn noted(&self, alloc: Global) -> Result<NotedWords, OutOfMemory>
+        ensures words { IfOk result (λ view. view.words.items ≡ opening_values self.now.checked) }
+        ensures count { IfOk result (λ view. length view.words.items ≡ word_count self.now.checked.vars) }
+        ensures loads { IfOk result (λ view. view.loads ≡ 0) }
     {
         let words = self.opening(alloc)?;
         Ok(NotedWords {
@@ -59,24 +60,27 @@ impl Compiled {
         })
     }
 
-    fn opening(&self, alloc: Global) -> Result<Vec<u16>, AllocError>
-        ensures { IfOk result (λ words. length words.items ≡ word_count self.now.checked.vars) }
+    fn opening(&self, alloc: Global) -> Result<Vec<u16>, OutOfMemory>
+        ensures words { IfOk result (λ words. words.items ≡ opening_values self.now.checked) }
+        ensures count { IfOk result (λ words. length words.items ≡ word_count self.now.checked.vars) }
     {
+        let store = SerialStore::opening(alloc, &self.checked)?;
         let mut words = Vec::new(alloc);
         for word in 0..self.checked.words() {
-            words.push(self.checked.opening(word))?;
+            words.push(store.get(word)).map_err(|_| OutOfMemory)?;
         }
         Ok(words)
     }
 
-    /// Runs a body on the machine. It tells what the evaluator tells, and takes the body's cost at most.
+    /// Runs a body on the machine, over any view of the program's words. It tells what the evaluator tells, within the body's
+    /// cost; it is refused only where memory is.
     pub fn run<V: View>(
         &self,
         alloc: Global,
         body: BodyId,
         params: &[u16],
         view: &mut V,
-    ) -> Result<Ran, AllocError>
+    ) -> Result<Ran, OutOfMemory>
         requires words { length (V.words view.old) ≡ word_count self.now.checked.vars }
         requires body { HasBodyFor self.now.checked body params.now }
         requires few { length params.now ≤ 4 }

@@ -10,8 +10,8 @@ use Rattle.word_cpu.specs.OnCourse.{read_by}
 use Rattle.word_cpu.specs.Turning.{IsStep}
 use Rattle.worked_bodies.specs.Bodies.{TellsCourse}
 use Rattle.word_cpu.specs.Reached.{Comes, IsUnderWay}
-use Rattle.worked_bodies.proofs.Machine.{comes_on, tells_in_the_end}
-use Rattle.worked_bodies.proofs.tests.machine.run_within.Goals as goal
+use Rattle.worked_bodies.proofs.Told.{comes_on, tells_in_the_end}
+use Rattle.worked_bodies.proofs.machine.run_within.Goals as goal
 
 pub loop-spent-init : goal.loop-spent-init
 loop-spent-init g c = (

@@ -3,7 +3,7 @@ use Rattle.std.proofs.lemmas.Result.{IfOk-weaker}
 use Rattle.word_code.specs.Code.{Bodies, HasBody}
 use Rattle.codegen.specs.CodeLaws.{course_on}
 use Rattle.worked_bodies.proofs.Bodies.{computes_there, same_params}
-use Rattle.worked_bodies.proofs.tests.compiled.Compiled.run.Goals as goal
+use Rattle.worked_bodies.proofs.compiled.Compiled.run.Goals as goal
 
 pub run_within-requires-clause-exists : goal.run_within-requires-clause-exists
 run_within-requires-clause-exists g c =

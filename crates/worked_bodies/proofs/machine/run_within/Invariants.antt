@@ -1,7 +1,7 @@
 use Rattle.std.proofs.Common.{List}
 use Rattle.task_syntax.specs.Course.{Access}
 use Rattle.word_cpu.specs.Reached.{Comes}
-use Rattle.worked_bodies.proofs.tests.machine.run_within.Given as goal
+use Rattle.worked_bodies.proofs.machine.run_within.Given as goal
 
 abbrev pub invariant-loop-spent : goal.invariant-loop-spent
 invariant-loop-spent g l =

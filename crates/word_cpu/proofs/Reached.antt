@@ -15,7 +15,7 @@ use Rattle.word_cpu.specs.declared.cpu.Cpu.{Cpu}
 use Rattle.word_cpu.specs.declared.turn.Turn.{Turn}
 use Rattle.word_cpu.specs.declared.turn.Turn.TheVariants.{Went, Storing, Ended}
 use Rattle.word_cpu.specs.OnCourse.{IsOnCourse, GoesAlong, LeadsAlong, WentAlong, MachinesOnCourseCanStep, StepsGoAlongTheCourse, done_by, read_by}
-use Rattle.word_cpu.specs.Reached.{Comes, HasDone, IsAtStart, IsUnderWay, KeepsToTheCourse}
+use Rattle.word_cpu.specs.Reached.{Comes, HasDone, IsAtStart, HasNotEnded, KeepsToTheCourse}
 use Rattle.word_cpu.specs.Turning.{IsStep, state_of}
 use Rattle.word_cpu.proofs.Begun.{none_made}
 use Rattle.word_cpu.proofs.OnCourse.{reads_are}
@@ -85,7 +85,7 @@ module _ {V : Type 0} (words : V → List ℕ) (begun : V → ℕ → ℕ → �
         ∙ sym (joins done (done_by turn (move_of instr (state_of before)))).read;
   }
 
-  left_after : (spent : ℕ) (done : List Access) (read : List Reading) (before after : Cpu) (old new : V) (turn : Turn) (instr : Instr) → IsUnderWay turn →
+  left_after : (spent : ℕ) (done : List Access) (read : List Reading) (before after : Cpu) (old new : V) (turn : Turn) (instr : Instr) → HasNotEnded turn →
       StartsAt (body_words code before.body) instr (state_of before) → IsStep words begun loaded stored code before after old new turn → (here : IsLeft spent done read before old) →
       GoesAlong words begun loaded stored code here.left here.rest before after old new turn →
       IsLeft (spent + 1) (done ++ done_by turn (move_of instr (state_of before))) (read ++ read_by turn) after new

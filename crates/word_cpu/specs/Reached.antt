@@ -21,10 +21,10 @@ pub record IsAtStart (body : BodyId) (params : List ℕ) (cpu : Cpu) : Type 0 wh
   pub part : cpu.part ≡ 0
 
 -- the body hasn't ended
-abbrev pub IsUnderWay : Turn → Type 0
-IsUnderWay (Went reading) = Unit {0}
-IsUnderWay Storing = Unit {0}
-IsUnderWay (Ended ending) = ⊥
+abbrev pub HasNotEnded : Turn → Type 0
+HasNotEnded (Went reading) = Unit {0}
+HasNotEnded Storing = Unit {0}
+HasNotEnded (Ended ending) = ⊥
 
 -- what a body did from its start to its end, on a list of words, is what its course does there
 pub record HasDone (course : Course Ending) (old : List ℕ) (done : List Access) (read : List Reading) (ending : Ending) (new : List ℕ) : Type 0 where
@@ -41,7 +41,7 @@ module _ {V : Type 0} (words : V → List ℕ) (begun : V → ℕ → ℕ → �
     starts : (cpu : Cpu) → IsAtStart body params cpu → Comes body params view 0 [] [] cpu view
     steps : (spent : ℕ) (done : List Access) (read : List Reading) (before after : Cpu) (old new : V) (turn : Turn) (instr : Instr) →
         Comes body params view spent done read before old → StartsAt (body_words code before.body) instr (state_of before) →
-        IsStep words begun loaded stored code before after old new turn → IsUnderWay turn →
+        IsStep words begun loaded stored code before after old new turn → HasNotEnded turn →
         Comes body params view (spent + 1) (done ++ done_by turn (move_of instr (state_of before))) (read ++ read_by turn) after new
 
   -- the machine can make a step within the cost, and where the body ends by it, all is done that its course does

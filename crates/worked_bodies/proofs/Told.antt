@@ -10,7 +10,7 @@ use Rattle.word_code.specs.Machine.{move_of}
 use Rattle.word_cpu.specs.declared.cpu.Cpu.{Cpu}
 use Rattle.word_cpu.specs.declared.turn.Turn.{Turn}
 use Rattle.word_cpu.specs.OnCourse.{done_by, read_by}
-use Rattle.word_cpu.specs.Reached.{Comes, HasDone, IsUnderWay}
+use Rattle.word_cpu.specs.Reached.{Comes, HasDone, HasNotEnded}
 use Rattle.word_cpu.specs.Turning.{CanStep, IsStep, state_of}
 use Rattle.worked_bodies.specs.Bodies.{TellsCourse}
 
@@ -19,7 +19,7 @@ pub comes_on : {V : Type 0} (words : V → List ℕ) (begun : V → ℕ → ℕ 
     (loaded : V → ℕ → V → Type 0) (stored : V → ℕ → ℕ → ℕ → V → Bool → Type 0)
     (code : Bodies) (body : BodyId) (params : List ℕ) (view : V) (spent : ℕ) (read all : List Reading) (before after : Cpu) (old new : V) (turn : Turn) →
     ((done : List Access) × Comes words begun loaded stored code body params view spent done read before old) →
-    CanStep code before (length (words old)) → IsStep words begun loaded stored code before after old new turn → IsUnderWay turn → all ≡ read ++ read_by turn →
+    CanStep code before (length (words old)) → IsStep words begun loaded stored code before after old new turn → HasNotEnded turn → all ≡ read ++ read_by turn →
     (done : List Access) × Comes words begun loaded stored code body params view (spent + 1) done all after new
 comes_on words begun loaded stored code body params view spent read all before after old new turn come can step goes_on is = (
   come.0 ++ done_by turn (move_of can.0 (state_of before)),

@@ -5,7 +5,7 @@ ghost use Rattle.word_code.specs.Code.{HasBody, body_words};
 ghost use Rattle.word_code.specs.Following.{Computes};
 ghost use Rattle.word_cpu.specs.declared.turn.Turn.TheVariants.{Ended};
 ghost use Rattle.word_cpu.specs.OnCourse.{read_by};
-ghost use Rattle.word_cpu.specs.Reached.{IsUnderWay};
+ghost use Rattle.word_cpu.specs.Reached.{HasNotEnded};
 ghost use Rattle.worked_bodies.specs.Bodies.{TellsWhatIsComputed};
 
 use coati_word::{Ending, OutOfMemory, Reading};
@@ -60,7 +60,7 @@ pub(crate) fn run_within<V: View>(
 fn keep(readings: &mut Vec<Reading>, turn: Turn) -> Result<Option<Ending>, OutOfMemory>
     ensures read { OnOk result (readings.new.items ≡ readings.old.items ++ read_by turn) }
     ensures ended { IfOk result (λ end. IfSome end (λ ending. turn ≡ Ended ending)) }
-    ensures goes_on { IfOk result (λ end. IfNone end (IsUnderWay turn)) }
+    ensures goes_on { IfOk result (λ end. IfNone end (HasNotEnded turn)) }
 {
     match turn {
         Turn::Went(Some(reading)) => readings.push(reading).map_err(|_| OutOfMemory)?,

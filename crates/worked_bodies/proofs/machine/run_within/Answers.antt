@@ -9,7 +9,7 @@ use Rattle.word_cpu.specs.declared.turn.Turn.TheVariants.{Ended}
 use Rattle.word_cpu.specs.OnCourse.{read_by}
 use Rattle.word_cpu.specs.Turning.{IsStep}
 use Rattle.worked_bodies.specs.Bodies.{TellsCourse}
-use Rattle.word_cpu.specs.Reached.{Comes, IsUnderWay}
+use Rattle.word_cpu.specs.Reached.{Comes, HasNotEnded}
 use Rattle.worked_bodies.proofs.Told.{comes_on, tells_in_the_end}
 use Rattle.worked_bodies.proofs.machine.run_within.Goals as goal
 
@@ -62,7 +62,7 @@ pub loop-spent-preserved : goal.loop-spent-preserved
 loop-spent-preserved g c =
     let come = c.loop-spent.invariant in
     let here = c.machines_keep_to_the_course.ensures c.args.code.now c.args.cost c.requires.computes.0 c.args.body c.args.params.now c.args.view.now c.requires.computes.1 c.loop-spent.spent come.0 c.loop-spent.readings.items c.loop-spent.cpu c.loop-spent.view come.1 in
-    let goes_on : IsUnderWay c.step-turn.result = subst (λ (end : Option Ending). IfNone end (IsUnderWay c.step-turn.result)) c.in_default.is c.in_ok-ending.ensures.goes_on in
+    let goes_on : HasNotEnded c.step-turn.result = subst (λ (end : Option Ending). IfNone end (HasNotEnded c.step-turn.result)) c.in_default.is c.in_ok-ending.ensures.goes_on in
     comes_on g.V.View.words g.V.View.begun g.V.View.loaded g.V.View.stored c.args.code.now c.args.body c.args.params.now c.args.view.now c.loop-spent.spent
     c.loop-spent.readings.items c.keep.new.readings.items c.loop-spent.cpu c.step-turn.new.self c.loop-spent.view c.step-turn.new.view c.step-turn.result
     come here.can_step c.step-turn.ensures.step goes_on c.in_ok-ending.ensures.read

@@ -18,7 +18,8 @@ use Rattle.coati_board.specs.FirstForm.IsEnding.{next, halt}
 use Rattle.coati_board.specs.FirstForm.IsLast.{ending, choice}
 use Rattle.coati_board.specs.Tasks.{EndsAt}
 use Rattle.task_syntax.specs.Units.{place_after}
-use Rattle.coati_board.proofs.Courses.{answer_chain, accesses_chain, pointwise, chain_assoc}
+use Rattle.task_syntax.proofs.Chains.{accesses-chain, answer-chain, chain-chain}
+use Rattle.coati_board.proofs.Courses.{pointwise}
 use Rattle.coati_board.proofs.Forms.{aim_plain}
 
 -- what is left of a body is one
@@ -59,8 +60,8 @@ module _ (p : Program) where
       → body p (Assign (Plain name) e ∷ more) no_locals ≡ chain (expression p e no_locals) (λ value. Course.writes words.first value (body p more no_locals))
   body_assigns name e words more found =
       ap (λ (c : Course Way). chain (chain c (unless_out (in_turn (map (statement p) more)))) ending_of) (assign_is name e words found)
-      ∙ ap (λ (c : Course Way). chain c ending_of) (chain_assoc (expression p e no_locals) (λ value. Course.writes words.first value (Course.ends (Way.on no_locals))) (unless_out (in_turn (map (statement p) more))))
-      ∙ chain_assoc (expression p e no_locals) (λ value. chain (Course.writes words.first value (Course.ends (Way.on no_locals))) (unless_out (in_turn (map (statement p) more)))) ending_of
+      ∙ ap (λ (c : Course Way). chain c ending_of) (chain-chain (expression p e no_locals) (λ value. Course.writes words.first value (Course.ends (Way.on no_locals))) (unless_out (in_turn (map (statement p) more))))
+      ∙ chain-chain (expression p e no_locals) (λ value. chain (Course.writes words.first value (Course.ends (Way.on no_locals))) (unless_out (in_turn (map (statement p) more)))) ending_of
 
   -- a body of an ending alone
   pub body_ends : (s : Stmt) (place : ℕ) (e : EndsAt p s place) → body p (s ∷ []) no_locals ≡ Course.ends e.how
@@ -73,8 +74,8 @@ module _ (p : Program) where
       let K : ℕ → Course Way = λ value. if value == 0 then in_turn (statement p other ∷ []) no_locals else in_turn (statement p first ∷ []) no_locals in
       let U : Way → Course Way = unless_out (in_turn []) in
       ap (λ (w : Course Way). chain (chain w U) ending_of) (if_is c first other)
-      ∙ ap (λ (w : Course Way). chain w ending_of) (chain_assoc (expression p c no_locals) K U)
-      ∙ chain_assoc (expression p c no_locals) (λ value. chain (K value) U) ending_of
+      ∙ ap (λ (w : Course Way). chain w ending_of) (chain-chain (expression p c no_locals) K U)
+      ∙ chain-chain (expression p c no_locals) (λ value. chain (K value) U) ending_of
       ∙ ap (λ (next : ℕ → Course Ending). chain (expression p c no_locals) next)
       (pointwise (λ value. chain (chain (K value) U) ending_of) (λ value. Course.ends (if value == 0 then o.how else f.how)) (λ value. either (value == 0)))
     where
@@ -129,7 +130,7 @@ module _ (p : Program) (c : Expr) (first other : Stmt) (x y : ℕ) (f : EndsAt p
   pub choice_reads : readings (accesses (body p (If c (first ∷ []) (Some (other ∷ [])) ∷ []) no_locals) s) ≡ readings_of p c no_locals s
   choice_reads =
       ap (λ (course : Course Ending). readings (accesses course s)) (body_chooses p c first other x y f o)
-      ∙ ap readings (accesses_chain (expression p c no_locals) chosen s ∙ append-nil (accesses (expression p c no_locals) s))
+      ∙ ap readings (accesses-chain (expression p c no_locals) chosen s ∙ append-nil (accesses (expression p c no_locals) s))
 
   leads : (b : Bool) → place_after (if b then o.how else f.how) ≡ (if b then y else x)
   leads true = o.leads
@@ -138,7 +139,7 @@ module _ (p : Program) (c : Expr) (first other : Stmt) (x y : ℕ) (f : EndsAt p
   pub choice_leads : place_after (answer (body p (If c (first ∷ []) (Some (other ∷ [])) ∷ []) no_locals) s) ≡ (if value_of p c no_locals s == 0 then y else x)
   choice_leads =
       ap (λ (course : Course Ending). place_after (answer course s)) (body_chooses p c first other x y f o)
-      ∙ ap place_after (answer_chain (expression p c no_locals) chosen s)
+      ∙ ap place_after (answer-chain (expression p c no_locals) chosen s)
       ∙ leads (value_of p c no_locals s == 0)
 
 -- the lone statement of a block

@@ -8,7 +8,7 @@ use Rattle.task_syntax.specs.declared.program.Var.{Var}
 use Rattle.task_syntax.specs.declared.program.UnitDecl.{UnitDecl}
 use Rattle.task_syntax.specs.declared.program.UnitDecl.TheVariants.{Lone, Tx}
 use Rattle.task_syntax.specs.declared.program.TaskDecl.{TaskDecl}
-use Rattle.task_syntax.specs.Names.{words_from, task_from, tasks_of_unit, tasks, first_values, given_values, opening_values}
+use Rattle.task_syntax.specs.Names.{words_from, tasks_of_unit, tasks, first_values, given_values, opening_values}
 use Rattle.task_syntax.specs.declared.program.Program.{Program}
 use Rattle.task_syntax.specs.declared.program.Init.{Init}
 use Rattle.task_syntax.specs.declared.program.Init.TheVariants as init
@@ -22,11 +22,6 @@ pub words_step : (vars : List Var) (i : ℕ) (var : Var) (name : List ℕ) → i
 words_step vars i var name l is scalar =
     let none : var.length ≡ None = ap (λ (v : Var). v.length) is ∙ (scalar i var l).length in
     rw (drop_more vars i var l, ← is, none) refl
-
--- the tasks from a place on: the lone task there, or those behind it
-pub tasks_step : (units : List UnitDecl) (i : ℕ) (task : TaskDecl) (name : List ℕ) → i < length units → Lone task ≡ get_or units i (Lone task)
-    → task_from i (flat_map tasks_of_unit (drop i units)) name ≡ (if bytes_eq task.name.text name then Some i else task_from (i + 1) (flat_map tasks_of_unit (drop (i + 1) units)) name)
-tasks_step units i task name l is = rw (drop_more units i (Lone task) l, ← is) refl
 
 -- as many tasks as units, where each unit is a lone task
 lone_count : (units : List UnitDecl) → AllByRecursion IsLone units → length (flat_map tasks_of_unit units) ≡ length units

@@ -13,12 +13,13 @@ use Rattle.task_syntax.specs.declared.expression.Place.TheVariants.{Plain, rolls
 use Rattle.task_syntax.specs.declared.expression.Place.{Place}
 use Rattle.task_syntax.specs.Course.{Course, chain, Store, accesses, answer, after, readings, Access}
 use Rattle.task_syntax.specs.Names.{Words, words_of}
-use Rattle.task_syntax.specs.Expressions.{Locals, no_locals, Aim, plain_aim, value_at, expression, aim, expression_step, aim_step, value_of, readings_of}
+use Rattle.task_syntax.specs.Expressions.{Locals, no_locals, Aim, plain_aim, value_at, expression, aim, expression_step, aim_step, readings_of}
 use Rattle.coati_board.specs.FirstForm.{IsOperand, IsExpression}
 use Rattle.coati_board.specs.FirstForm.IsOperand.{number, variable}
 use Rattle.coati_board.specs.FirstForm.IsExpression.{alone, joined}
 use Rattle.coati_board.specs.History.{Kept, adding}
-use Rattle.coati_board.proofs.Courses.{answer_chain, accesses_chain, after_append, readings_append, adding_twice}
+use Rattle.task_syntax.proofs.Chains.{accesses-chain, after-append, readings-append}
+use Rattle.coati_board.proofs.Courses.{adding_twice}
 
 -- one layer of an expression
 abbrev Layer : Type 0
@@ -89,15 +90,15 @@ accesses_two p op a b s l r =
     let right = expression p b no_locals in
     let last : ℕ → ℕ → Course ℕ = λ x y. Course.ends (operator_value op x y) in
     let kept : after (accesses left s) s ≡ s = (operand_reads p a l).keeps s in
-    ap (λ (c : Course ℕ). accesses c s) (two_is p op a b) ∙ accesses_chain left (λ x. chain right (last x)) s
+    ap (λ (c : Course ℕ). accesses c s) (two_is p op a b) ∙ accesses-chain left (λ x. chain right (last x)) s
     ∙ ap (λ (more : List Access). accesses left s ++ more) (
-    ap (λ (t : Store). accesses (chain right (last (answer left s))) t) kept ∙ accesses_chain right (last (answer left s)) s ∙ append-nil (accesses right s)
+    ap (λ (t : Store). accesses (chain right (last (answer left s))) t) kept ∙ accesses-chain right (last (answer left s)) s ∙ append-nil (accesses right s)
     )
 
 pub readings_two : (p : Program) (op : Op) (a b : Expr) (s : Store) → IsOperand p a → IsOperand p b
     → readings_of p (Two op a b) no_locals s ≡ readings_of p a no_locals s ++ readings_of p b no_locals s
 readings_two p op a b s l r =
-    ap readings (accesses_two p op a b s l r) ∙ readings_append (accesses (expression p a no_locals) s) (accesses (expression p b no_locals) s)
+    ap readings (accesses_two p op a b s l r) ∙ readings-append (accesses (expression p a no_locals) s) (accesses (expression p b no_locals) s)
 
 -- the readings that two joined add, one after the other
 pub added_by_two : (p : Program) (e : Expr) (op : Op) (a b : Expr) (s : Store) (old mid new : Kept) → e ≡ Two op a b → IsExpression p e
@@ -108,16 +109,6 @@ added_by_two p e op a b s old mid new two form left right =
     ∙ ap (λ (rs : List Reading). adding old rs) (sym (readings_two p op a b s (left_operand p e op a b two form) (right_operand p e op a b two form)))
     ∙ ap (λ (x : Expr). adding old (readings_of p x no_locals s)) (sym two)
 
-pub value_two : (p : Program) (op : Op) (a b : Expr) (s : Store) → IsOperand p a → IsOperand p b
-    → value_of p (Two op a b) no_locals s ≡ operator_value op (value_of p a no_locals s) (value_of p b no_locals s)
-value_two p op a b s l r =
-    let left = expression p a no_locals in
-    let right = expression p b no_locals in
-    let last : ℕ → ℕ → Course ℕ = λ x y. Course.ends (operator_value op x y) in
-    ap (λ (c : Course ℕ). answer c s) (two_is p op a b) ∙ answer_chain left (λ x. chain right (last x)) s
-    ∙ ap (λ (t : Store). answer (chain right (last (answer left s))) t) ((operand_reads p a l).keeps s)
-    ∙ answer_chain right (last (answer left s)) s
-
 twice : (p : Program) (op : Op) (a b : Expr) → IsOperand p a → IsOperand p b → OnlyReads 2 (expression p (Two op a b) no_locals)
 twice p op a b l r =
     let left = expression p a no_locals in
@@ -125,7 +116,7 @@ twice p op a b l r =
     record {
       keeps = λ s.
           ap (λ (xs : List Access). after xs s) (accesses_two p op a b s l r)
-          ∙ after_append (accesses left s) (accesses right s) s
+          ∙ after-append (accesses left s) (accesses right s) s
           ∙ ap (λ (t : Store). after (accesses right s) t) ((operand_reads p a l).keeps s)
           ∙ (operand_reads p b r).keeps s;
       few = λ s. rw (readings_two p op a b s l r, length-append) (omega (arith, (operand_reads p a l).few s, (operand_reads p b r).few s));

@@ -4,7 +4,7 @@ use Rattle.coati_word.specs.declared.ending.Ending.{Ending}
 use Rattle.coati_word.specs.declared.reading.Reading.{Reading}
 use Rattle.task_syntax.specs.Course.{Course, chain, Store, put, Access, accesses, answer, after, readings}
 use Rattle.coati_board.specs.Sound.{HasReached}
-use Rattle.coati_board.proofs.Courses.{after_append, readings_append, answer_chain, accesses_chain}
+use Rattle.task_syntax.proofs.Chains.{accesses-chain, after-append, answer-chain, readings-append}
 
 -- at the start nothing is done
 pub reach_none : (whole : Course Ending) (base seen : Store) → seen ≡ base → HasReached whole base whole seen []
@@ -17,7 +17,7 @@ further : (whole : Course Ending) (base : Store) (rest next : Course Ending) (se
     → HasReached whole base next t (read ++ readings more)
 further whole base rest next seen t read more h path result ends =
     let now = after h.so_far base in
-    let there : after (h.so_far ++ more) base ≡ t = after_append h.so_far more base ∙ ap (λ (s : Store). after more s) (sym h.store) ∙ ends in
+    let there : after (h.so_far ++ more) base ≡ t = after-append h.so_far more base ∙ ap (λ (s : Store). after more s) (sym h.store) ∙ ends in
     record {
       so_far = h.so_far ++ more;
       store = sym there;
@@ -27,7 +27,7 @@ further whole base rest next seen t read more h path result ends =
           ∙ sym (append_assoc h.so_far more (accesses next t))
           ∙ ap (λ (s : Store). (h.so_far ++ more) ++ accesses next s) (sym there);
       result = h.result ∙ ap (λ (s : Store). answer rest s) (sym h.store) ∙ result ∙ ap (λ (s : Store). answer next s) (sym there);
-      reads = ap (λ (rs : List Reading). rs ++ readings more) h.reads ∙ sym (readings_append h.so_far more);
+      reads = ap (λ (rs : List Reading). rs ++ readings more) h.reads ∙ sym (readings-append h.so_far more);
     }
 
 -- past an evaluation that writes nothing
@@ -36,8 +36,8 @@ pub reach_value : (whole : Course Ending) (base : Store) (first : Course ℕ) (n
     → HasReached whole base (next (answer first seen)) seen (read ++ readings (accesses first seen))
 reach_value whole base first next seen read h keeps =
     further whole base (chain first next) (next (answer first seen)) seen seen read (accesses first seen) h
-    (accesses_chain first next seen ∙ ap (λ (s : Store). accesses first seen ++ accesses (next (answer first seen)) s) keeps)
-    (answer_chain first next seen ∙ ap (λ (s : Store). answer (next (answer first seen)) s) keeps) keeps
+    (accesses-chain first next seen ∙ ap (λ (s : Store). accesses first seen ++ accesses (next (answer first seen)) s) keeps)
+    (answer-chain first next seen ∙ ap (λ (s : Store). answer (next (answer first seen)) s) keeps) keeps
 
 -- past a write
 pub reach_write : (whole : Course Ending) (base : Store) (word value : ℕ) (rest : Course Ending) (seen t : Store) (read : List Reading)

@@ -31,7 +31,8 @@ use Rattle.coati_board.specs.Act.IsAct.{applies, sleeps, starts, replaces, numbe
 use Rattle.coati_board.specs.SerialRun.{Entry, Stand, entries, opening_stand, after_task, after_entries, IsNext, AreSerial, stand_of}
 use Rattle.coati_board.specs.Sound.{HasReached, HasCome, IsAttempt, StandsFor, IsSound}
 use Rattle.coati_board.proofs.Declared.{task_has_body}
-use Rattle.coati_board.proofs.Courses.{pointwise, accesses_chain}
+use Rattle.task_syntax.proofs.Chains.{accesses-chain}
+use Rattle.coati_board.proofs.Courses.{pointwise}
 use Rattle.coati_board.proofs.Forms.{expression_reads}
 use Rattle.coati_board.proofs.Bodies.{body_from, body_assigns, body_ends, body_chooses}
 use Rattle.coati_board.proofs.Ranges.{logged_word_behind, logged_value_behind}
@@ -144,7 +145,7 @@ last_keeps p st store (choice c first other is x fe oe) =
     let chosen : ℕ → Course Ending = λ value. Course.ends (if value == 0 then o.ends.how else f.ends.how) in
     ap (λ (t : Stmt). after (accesses (body p (t ∷ []) no_locals) store) store) is
     ∙ ap (λ (course : Course Ending). after (accesses course store) store) (body_chooses p c first other f.to o.to f.ends o.ends)
-    ∙ ap (λ (xs : List Access). after xs store) (accesses_chain (expression p c no_locals) chosen store ∙ append-nil (accesses (expression p c no_locals) store))
+    ∙ ap (λ (xs : List Access). after xs store) (accesses-chain (expression p c no_locals) chosen store ∙ append-nil (accesses (expression p c no_locals) store))
     ∙ (expression_reads p c x).keeps store
 
 one_keeps : (p : Program) (xs : List Stmt) (store : Store) → IsBody p xs → length xs ≡ 1 → after (accesses (body p xs no_locals) store) store ≡ store

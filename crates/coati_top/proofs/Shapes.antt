@@ -1,6 +1,6 @@
 -- What is known of a part of a program from its shape.
 use Rattle.std.proofs.Common.{◌≡◌, List, [], ◌∷◌, sym, ap, ◌∙◌, subst}
-use Rattle.std.specs.Prelude.{Some, None, Option}
+use Rattle.std.specs.Prelude.{Some, Option}
 use Rattle.coati_word.specs.declared.operator.Op.{Op}
 use Rattle.task_syntax.specs.declared.program.Program.{Program}
 use Rattle.task_syntax.specs.declared.name.Name.{Name}
@@ -102,12 +102,6 @@ IsLast-from program statement condition block other is on endings =
     let a = endings.0 in
     let b = endings.1 in
     choice condition a.ending b.ending (is ∙ ap (λ (x : List Stmt). If condition x (Some other)) a.only ∙ ap (λ (x : List Stmt). If condition (a.ending ∷ []) (Some x)) b.only) on a.ends b.ends
-
-pub no_choice : (program : Program) (statement : Stmt) (condition : Expr) (block : List Stmt) → statement ≡ If condition block None → IsLast program statement → ⊥
-no_choice program statement condition block is (ending ends) = if_no_ending program statement condition block None is ends
-no_choice program statement condition block is (choice c first second chosen on_c on_first on_second) =
-    let same = same_if c condition (first ∷ []) block (Some (second ∷ [])) None (sym chosen ∙ is) in
-    let none : Some (second ∷ []) ≡ None = same.2 in cc
 
 pub IsEnding-last : (program : Program) (statement : Stmt) → ((condition : Expr) (block : List Stmt) (other : Option (List Stmt)) → statement ≡ If condition block other → ⊥) → IsLast program statement → IsEnding program statement
 IsEnding-last program statement no_if (ending ends) = ends

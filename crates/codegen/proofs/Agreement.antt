@@ -2,7 +2,7 @@
 use Rattle.std.proofs.Common.{◌≡◌, ◌≢◌, ℕ, ◌+◌, ◌<◌, ◌≤◌, List, [], ◌∷◌, length, refl, sym, ap, ◌∙◌, subst, arith}
 use Rattle.std.specs.Prelude.{Bool, true, false, ◌||◌, Option, Some, None, is_some, if◌then◌else◌, slice_index_or, slice_set}
 use Rattle.std.specs.Str.{bytes_eq}
-use Rattle.std.proofs.lemmas.Bool.{true≢false}
+use Rattle.std.proofs.lemmas.Bool.{or_right, true≢false}
 use Rattle.std.proofs.lemmas.Slice.Eq.{bytes_eq-Decides}
 use Rattle.std.proofs.lemmas.List.{get_or-set_same, get_or-set_other}
 use Rattle.task_syntax.specs.Expressions.{Locals, with_local}
@@ -133,16 +133,12 @@ apart_declared scope loops name sound one other slot e f =
       ] refl f
     ] refl e
 
-pub or-right : (a b : Bool) → b ≡ true → (a || b) ≡ true
-or-right true b h = refl
-or-right false b h = h
-
 -- a new name, and maybe a loop of that name round what follows
 pub sound_declared : (scope : Scope) (loops : List (List ℕ)) (name : List ℕ) → Sound scope loops → Sound (declare name scope) loops
 sound_declared scope loops name sound = record {
   below = below_declared scope loops name sound;
   apart = apart_declared scope loops name sound;
-  loops_known = λ other h. or-right (bytes_eq other name) (is_among (names_of scope.locals) other) (sound.loops_known other h);
+  loops_known = λ other h. or_right (bytes_eq other name) (is_among (names_of scope.locals) other) (sound.loops_known other h);
 }
 
 pub sound_loop : (scope : Scope) (loops : List (List ℕ)) (name : List ℕ) → Sound scope loops → Sound (declare name scope) (name ∷ loops)

@@ -1,7 +1,7 @@
 -- What is shown of each statement and of each block: its code does what it means, and leaves the scope that it is to leave.
 use Rattle.std.proofs.Common.{◌≡◌, ℕ, ◌+◌, ◌≤◌, List, [], ◌∷◌, refl, ap, ◌∙◌, subst, arith}
 use Rattle.std.specs.Prelude.{Bool, true, false, ◌&&◌, ◌==◌, not, if◌then◌else◌, max, nat_le}
-use Rattle.std.proofs.lemmas.Bool.{leb-true}
+use Rattle.std.proofs.lemmas.Bool.{and_parts, leb-true}
 use Rattle.task_syntax.specs.Course.{Course, chain}
 use Rattle.task_syntax.specs.Cost.{loop_cost}
 use Rattle.task_syntax.specs.Expressions.{Locals, with_local}
@@ -19,7 +19,7 @@ use Rattle.codegen.proofs.Statements.{Works, works_false, works_left, works_righ
 use Rattle.codegen.proofs.Straight.{declared_works, not-true}
 use Rattle.codegen.proofs.Choices.{block_of, within_works, when_works, either_works}
 use Rattle.codegen.proofs.Loops.{loop_works}
-use Rattle.codegen.proofs.Variables.{Small, small_slots, both}
+use Rattle.codegen.proofs.Variables.{Small, small_slots}
 
 module _ (words : List ℕ) (count : ℕ) where
   pub record Good (names : Part) (spares : Sparing) (turns gives ends : Bool) (declared depth cost : ℕ) (template : Template) (conduct : Conduct) : Type 0 where
@@ -78,16 +78,16 @@ module _ (words : List ℕ) (count : ℕ) where
 
     joined_grows : (scope : Scope) → (joined n1 n2 (names_of scope.locals)).fits ≡ true → Grows scope.locals (joined_code t1 t2 scope).behind.locals
     joined_grows scope fits =
-        let f = both (n1 (names_of scope.locals)).fits (n2 (n1 (names_of scope.locals)).known).fits fits in
+        let f = and_parts (n1 (names_of scope.locals)).fits (n2 (n1 (names_of scope.locals)).known).fits fits in
         grows_on scope.locals (t1 scope).behind.locals (t2 (t1 scope).behind).behind.locals (first.grows scope f.0) (second.grows (t1 scope).behind (second_fits scope f.1))
 
     joined_works : (scope : Scope) (loops : List (List ℕ)) → Sound scope loops → (joined n1 n2 (names_of scope.locals)).fits ≡ true → both_spare s1 s2 loops ≡ true → (k1 && k2) ≡ true → (g1 && g2) ≡ true →
         scope.next + b ≤ 32 → max d1 d2 ≤ 32 → Works words count e2 scope loops (joined_code t1 t2 scope) c (after f1 f2)
     joined_works scope loops sound fits spared turned given slots deep =
-        let f = both (n1 (names_of scope.locals)).fits (n2 (n1 (names_of scope.locals)).known).fits fits in
-        let s = both (s1 loops) (s2 loops) spared in
-        let k = both k1 k2 turned in
-        let h = both g1 g2 given in
+        let f = and_parts (n1 (names_of scope.locals)).fits (n2 (n1 (names_of scope.locals)).known).fits fits in
+        let s = and_parts (s1 loops) (s2 loops) spared in
+        let k = and_parts k1 k2 turned in
+        let h = and_parts g1 g2 given in
         let one = first.works scope loops sound f.0 s.0 k.0 h.0 (omega (arith, slots, slots_are)) (omega (arith, deep)) in
         let two = second.works (t1 scope).behind loops (first.sound scope loops sound) (second_fits scope f.1) s.1 k.1 h.1 (omega (arith, slots, slots_are, first.next_is scope)) (omega (arith, deep)) in
         works_in words count e2 scope loops (joined_code t1 t2 scope) (c1 + c2) c (after f1 f2) (omega (arith, cost_is))
@@ -114,10 +114,10 @@ module _ (words : List ℕ) (count : ℕ) where
     alone_works : (scope : Scope) (loops : List (List ℕ)) → Sound scope loops → (joined n1 (fit.in_turn []) (names_of scope.locals)).fits ≡ true → both_spare s1 (λ loops. true) loops ≡ true →
         (k1 && true) ≡ true → (g1 && true) ≡ true → scope.next + b ≤ 32 → max d1 0 ≤ 32 → Works words count e1 scope loops (joined_code t1 (code.in_turn []) scope) c (after f1 (λ values. Course.ends (Way.on values)))
     alone_works scope loops sound fits spared turned given slots deep =
-        let f = both (n1 (names_of scope.locals)).fits true fits in
-        let s = both (s1 loops) true spared in
-        let k = both k1 true turned in
-        let h = both g1 true given in
+        let f = and_parts (n1 (names_of scope.locals)).fits true fits in
+        let s = and_parts (s1 loops) true spared in
+        let k = and_parts k1 true turned in
+        let h = and_parts g1 true given in
         let one = first.works scope loops sound f.0 s.0 k.0 h.0 (omega (arith, slots, slots_are)) (omega (arith, deep)) in
         works_in words count e1 scope loops (joined_code t1 (code.in_turn []) scope) (c1 + 0) c (after f1 (λ values. Course.ends (Way.on values))) (omega (arith, cost_is))
         (last_works e1 scope loops (t1 scope) c1 f1 one)
@@ -135,9 +135,9 @@ module _ (words : List ℕ) (count : ℕ) where
     next_is = λ scope. refl;
     named = λ scope. refl;
     sound = λ scope loops sound. sound_declared scope loops name sound;
-    grows = λ scope fit. declare_grows scope name (not-true (is_among (names_of scope.locals) name) (both (fits (names_of scope.locals)) (not (is_among (names_of scope.locals) name)) fit).1);
+    grows = λ scope fit. declare_grows scope name (not-true (is_among (names_of scope.locals) name) (and_parts (fits (names_of scope.locals)) (not (is_among (names_of scope.locals) name)) fit).1);
     works = λ scope loops sound fit spared turned given slots deep.
-        let f = both (fits (names_of scope.locals)) (not (is_among (names_of scope.locals) name)) fit in
+        let f = and_parts (fits (names_of scope.locals)) (not (is_among (names_of scope.locals) name)) fit in
         declared_works words count scope loops name instrs depth cost course sound (not-true (is_among (names_of scope.locals) name) f.1) (omega (arith, slots)) deep
         (gives scope.locals (small_slots scope loops sound (omega (arith, slots))) f.0);
   }
@@ -163,11 +163,11 @@ module _ (words : List ℕ) (count : ℕ) where
       grows = λ scope fit. same_grows scope.locals;
       works = λ scope loops sound fit spared turned given slots deep.
           let known = names_of scope.locals in
-          let f = both (test_fits known) ((n1 known).fits && true) fit in
-          let g = both (n1 known).fits true f.1 in
-          let s = both (s1 loops) true spared in
-          let k = both k1 true turned in
-          let h = both g1 true given in
+          let f = and_parts (test_fits known) ((n1 known).fits && true) fit in
+          let g = and_parts (n1 known).fits true f.1 in
+          let s = and_parts (s1 loops) true spared in
+          let k = and_parts k1 true turned in
+          let h = and_parts g1 true given in
           let w = block.works scope loops sound g.0 s.0 k.0 h.0 (omega (arith, slots)) (omega (arith, deep)) in
           when_works words count scope loops (test scope.locals) depth ct course (t1 scope).code (t1 scope).behind.next c1 f1 (omega (arith, deep))
           (gives scope.locals (small_slots scope loops sound (omega (arith, slots))) f.0)
@@ -185,11 +185,11 @@ module _ (words : List ℕ) (count : ℕ) where
           (λ values. chain (course values) (λ value. if value == 0 then f2 values else f1 values))
       either_works_so scope loops sound fit spared turned given slots deep =
           let known = names_of scope.locals in
-          let f = both (test_fits known) ((n1 known).fits && (n2 known).fits) fit in
-          let g = both (n1 known).fits (n2 known).fits f.1 in
-          let s = both (s1 loops) (s2 loops) spared in
-          let k = both k1 k2 turned in
-          let h = both g1 g2 given in
+          let f = and_parts (test_fits known) ((n1 known).fits && (n2 known).fits) fit in
+          let g = and_parts (n1 known).fits (n2 known).fits f.1 in
+          let s = and_parts (s1 loops) (s2 loops) spared in
+          let k = and_parts k1 k2 turned in
+          let h = and_parts g1 g2 given in
           let next = block.next_is scope in
           let sound2 = sound_behind scope (t1 scope).behind loops (omega (arith, next)) sound in
           let w1 = block.works scope loops sound g.0 s.0 k.0 h.0 (omega (arith, slots)) (omega (arith, deep)) in
@@ -221,8 +221,8 @@ module _ (words : List ℕ) (count : ℕ) where
     grows = λ scope fit. same_grows scope.locals;
     works = λ scope loops sound fit spared turned given slots deep.
         let inner = declare name scope in
-        let f = both (not (is_among (names_of scope.locals) name)) (n1 (names_of inner.locals)).fits fit in
-        let k = both (nat_le most 50000) k1 turned in
+        let f = and_parts (not (is_among (names_of scope.locals) name)) (n1 (names_of inner.locals)).fits fit in
+        let k = and_parts (nat_le most 50000) k1 turned in
         let w = block.works inner (name ∷ loops) (sound_loop scope loops name sound) f.1 spared k.1 given (omega (arith, slots)) (omega (arith, deep)) in
         loop_works words count scope loops name most (t1 inner) c1 f1 sound (not-true (is_among (names_of scope.locals) name) f.0) (omega (arith, slots)) (leb-true most 50000 k.0) (block.grows inner f.1)
         (works_false words count e1 inner (name ∷ loops) (t1 inner) c1 f1 w);

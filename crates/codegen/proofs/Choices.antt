@@ -4,6 +4,7 @@ use Rattle.std.specs.Prelude.{Bool, true, false, ◌==◌, if◌then◌else◌, 
 use Rattle.task_syntax.specs.Course.{Course, chain}
 use Rattle.task_syntax.specs.Expressions.{Locals}
 use Rattle.task_syntax.specs.Statements.{Way, Conduct}
+use Rattle.task_syntax.proofs.Chains.{chain-ends}
 use Rattle.word_code.specs.declared.instruction.Instr.{Instr}
 use Rattle.word_code.specs.declared.instruction.Instr.TheVariants.{Jump, JumpZ}
 use Rattle.word_code.specs.Machine.{State}
@@ -91,11 +92,6 @@ module _ (words : List ℕ) (count : ℕ) where
       (Follows.arrives 0 _ (Way.on after) (record { ls = r.ls; state_is = refl; long = r.long; agrees = r.agrees; kept = r.kept })))
   hop ends place end scope loops before (Way.out ending) s at r = Follows.arrives 1 s (Way.out ending) r
 
-  chain_ends : {A : Type 0} (course : Course A) → chain course (λ result. Course.ends result) ≡ course
-  chain_ends (Course.ends result) = refl
-  chain_ends (Course.reads word go_on) = λ i. Course.reads word (λ value. chain_ends (go_on value) i)
-  chain_ends (Course.writes word value rest) = ap (λ more. Course.writes word value more) (chain_ends rest)
-
   pub either_works : (ends : Bool) (scope : Scope) (loops : List (List ℕ)) (test : List Instr) (depth ct : ℕ) (course : Locals → Course ℕ)
       (block : Code) (next c : ℕ) (f : Conduct) (other : Code) (last d : ℕ) (g : Conduct) → depth ≤ 32 →
       Gives words count scope.locals test depth ct course → Works words count ends scope loops (block_of scope block next) c f →
@@ -126,7 +122,7 @@ module _ (words : List ℕ) (count : ℕ) where
         (follows_to words count (Reached words count ends after scope.locals loops values) Last v.limit m (state second [] ls) (g values)
         (v.by second ls values jump.1 long agrees) (omega arith)
         (λ way s r. reached_on words count ends after end scope.locals loops values values way s e (λ name known. refl) r))
-        (subst (λ z. Follows words count Last m (state (q + 2) [] ls) z) (chain_ends (f values))
+        (subst (λ z. Follows words count Last m (state (q + 2) [] ls) z) (chain-ends (f values))
         (then_follows words count (Reached words count ends (end_of block (q + 2)) scope.locals loops values) Last w.limit 1 m (state (q + 2) [] ls) (f values) (λ way. Course.ends way)
         (w.by (q + 2) ls values (stands_front words (q + 2) (block (q + 2)) (Jump after ∷ other second) behind.1) long agrees) (omega arith)
         (λ way s r. subst (λ x. Follows words count (Reached words count ends x scope.locals loops values) 1 s (Course.ends way)) e

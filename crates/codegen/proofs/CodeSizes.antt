@@ -6,13 +6,14 @@ use Rattle.task_syntax.specs.declared.expression.Place.{Place}
 use Rattle.task_syntax.specs.declared.expression.Expr as E
 use Rattle.task_syntax.specs.declared.expression.Place as P
 use Rattle.task_syntax.specs.declared.statement.Stmt.{Stmt}
-use Rattle.task_syntax.specs.CodeWords.{access_words, access_words_step, expression_words, expression_words_step, expressions_words, statement_words, statements_words}
+use Rattle.task_syntax.specs.CodeWords.{access_words, expression_words, expressions_words, statement_words, statements_words}
 use Rattle.codegen.specs.Code.{size}
 use Rattle.codegen.specs.Scope.{Local, Scope}
 use Rattle.codegen.specs.Templates.{expression_code, statement_code, statements_code}
 use Rattle.codegen.proofs.Fitting.{sum-cons}
 use Rattle.codegen.proofs.Sizes.{expression_size, statement_size, statements_size}
-use Rattle.codegen.proofs.Trees.{ExpressionCases, every_expression}
+use Rattle.task_syntax.proofs.MeasureLayers.{access_words-layer, expression_words-layer}
+use Rattle.task_syntax.proofs.Trees.{ExpressionCases, every_expression}
 
 pub size-expression_code : (program : Program) (e : Expr) (locals : List Local) → size (expression_code program e locals) ≡ expression_words e
 size-expression_code program e locals = expression_size program e locals
@@ -30,20 +31,14 @@ record IsLong (e : Expr) : Type 0 where
 record IsLongPlace (place : Place) : Type 0 where
   by : 0 < access_words place
 
-layer : (x : E.Expr-F Expr Place) → expression_words (E.roll-Expr x) ≡ expression_words_step (E.map-Expr Expr Place ℕ ℕ expression_words access_words x)
-layer x = E.fold-roll-Expr ℕ ℕ expression_words_step access_words_step x
-
-place_layer : (x : P.Place-F Expr Place) → access_words (P.roll-Place x) ≡ access_words_step (P.map-Place Expr Place ℕ ℕ expression_words access_words x)
-place_layer x = P.fold-roll-Place ℕ ℕ expression_words_step access_words_step x
-
 long_cases : ExpressionCases IsLong IsLongPlace
 long_cases = record {
-  num = λ value. record { by = rw (layer (E.Expr-F.Num value)) (omega arith) };
-  get = λ place long. record { by = rw (layer (E.Expr-F.Get place)) long.by };
-  one = λ op operand long. record { by = rw (layer (E.Expr-F.One op operand)) (omega arith) };
-  two = λ op left right one other. record { by = rw (layer (E.Expr-F.Two op left right)) (omega arith) };
-  plain = λ name. record { by = rw (place_layer (P.Place-F.Plain name)) (omega arith) };
-  item = λ name index long. record { by = rw (place_layer (P.Place-F.Item name index)) (omega arith) };
+  num = λ value. record { by = rw (expression_words-layer (E.Expr-F.Num value)) (omega arith) };
+  get = λ place long. record { by = rw (expression_words-layer (E.Expr-F.Get place)) long.by };
+  one = λ op operand long. record { by = rw (expression_words-layer (E.Expr-F.One op operand)) (omega arith) };
+  two = λ op left right one other. record { by = rw (expression_words-layer (E.Expr-F.Two op left right)) (omega arith) };
+  plain = λ name. record { by = rw (access_words-layer (P.Place-F.Plain name)) (omega arith) };
+  item = λ name index long. record { by = rw (access_words-layer (P.Place-F.Item name index)) (omega arith) };
 }
 
 -- there are no more expressions than words of them

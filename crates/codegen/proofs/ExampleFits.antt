@@ -8,10 +8,11 @@ use Rattle.task_syntax.specs.declared.body.Kind.TheVariants.{Task}
 use Rattle.task_syntax.specs.ProgramLaws.{HasNoEmptyArray}
 use Rattle.task_check.specs.Endings.{block_ends}
 use Rattle.codegen.specs.Fit.{Fits, statements_names, statements_spare}
-use Rattle.codegen.proofs.Built as build
-use Rattle.codegen.proofs.Built.{plain, number, get, two, assign, item}
+use Rattle.task_syntax.proofs.Built as build
+use Rattle.task_syntax.proofs.MeasureLayers.{measure_layers}
+use Rattle.task_syntax.proofs.Built.{plain, number, get, two, assign, item}
 use Rattle.codegen.proofs.Examples.{counter, counts_to_three, n, i, x}
-use Rattle.codegen.proofs.FitLayers.{fit_layers, measure_layers}
+use Rattle.codegen.proofs.FitLayers.{fit_layers}
 
 full : HasNoEmptyArray counter
 full = search (All-cons, All-nil, arith)

@@ -11,8 +11,8 @@ use Rattle.word_code.specs.declared.instruction.Instr.{Instr}
 use Rattle.word_code.specs.declared.instruction.Instr.TheVariants.{Push, GetL, SetL, LoadV, StoreV, LoadX, StoreX, Jump, JumpZ, Next, Halt, Done, Give, Two, One}
 use Rattle.codegen.specs.Scope.{slot_of, no_scope, declare_all}
 use Rattle.codegen.specs.Templates.{Template, plainly, declaring, in_turn, choice, body_code, body_words}
-use Rattle.codegen.proofs.Built as build
-use Rattle.codegen.proofs.Built.{named, plain, item, number, get, one, two, assign}
+use Rattle.task_syntax.proofs.Built as build
+use Rattle.task_syntax.proofs.Built.{named, plain, item, number, get, one, two, assign}
 use Rattle.codegen.proofs.CodeLayers.{code_layers}
 
 abbrev pub n : List ℕ

@@ -1,6 +1,6 @@
 -- What each layer of a tree keeps, and what it measures, in terms of its parts.
 use Rattle.std.proofs.Common.{◌≡◌, ℕ, List, ap}
-use Rattle.std.specs.Prelude.{Bool, Option}
+use Rattle.std.specs.Prelude.{Bool}
 use Rattle.task_syntax.specs.declared.program.Program.{Program}
 use Rattle.task_syntax.specs.declared.expression.Expr.{Expr}
 use Rattle.task_syntax.specs.declared.expression.Place.{Place}
@@ -8,9 +8,6 @@ use Rattle.task_syntax.specs.declared.expression.Expr as E
 use Rattle.task_syntax.specs.declared.expression.Place as P
 use Rattle.task_syntax.specs.declared.statement.Stmt.{Stmt}
 use Rattle.task_syntax.specs.declared.statement.Stmt as S
-use Rattle.task_syntax.specs.CodeWords.{expression_words, expression_words_step, access_words, access_words_step, statement_words, statement_words_step}
-use Rattle.task_syntax.specs.LocalCount.{declared_count, declared_step}
-use Rattle.task_syntax.specs.Depth.{expression_depth, expression_depth_step, index_depth, index_depth_step, statement_depth, statement_depth_step}
 use Rattle.task_check.specs.Endings.{statement_ends, ends_step}
 use Rattle.task_check.specs.Messages.{statement_gives, statement_gives_step}
 use Rattle.codegen.specs.Fit.{Part, Sparing, expression_names, expression_names_step, place_names, place_names_step, statement_names, statement_names_step, expression_spares_step, place_spares, place_spares_step, statement_spares, statement_spares_step, statement_turns, statement_turns_step}
@@ -48,27 +45,4 @@ statement_gives-layer x = S.fold-roll-Stmt Bool statement_gives_step x
 pub statement_ends-layer : (x : S.Stmt-F Stmt) → statement_ends (S.roll-Stmt x) ≡ ends_step (S.map-Stmt Stmt Bool statement_ends x)
 statement_ends-layer x = S.fold-roll-Stmt Bool ends_step x
 
-pub expression_words-layer : (x : E.Expr-F Expr Place) → expression_words (E.roll-Expr x) ≡ expression_words_step (E.map-Expr Expr Place ℕ ℕ expression_words access_words x)
-expression_words-layer x = E.fold-roll-Expr ℕ ℕ expression_words_step access_words_step x
-
-pub access_words-layer : (x : P.Place-F Expr Place) → access_words (P.roll-Place x) ≡ access_words_step (P.map-Place Expr Place ℕ ℕ expression_words access_words x)
-access_words-layer x = P.fold-roll-Place ℕ ℕ expression_words_step access_words_step x
-
-pub statement_words-layer : (x : S.Stmt-F Stmt) → statement_words (S.roll-Stmt x) ≡ statement_words_step (S.map-Stmt Stmt ℕ statement_words x)
-statement_words-layer x = S.fold-roll-Stmt ℕ statement_words_step x
-
-pub declared_count-layer : (x : S.Stmt-F Stmt) → declared_count (S.roll-Stmt x) ≡ declared_step (S.map-Stmt Stmt ℕ declared_count x)
-declared_count-layer x = S.fold-roll-Stmt ℕ declared_step x
-
-pub expression_depth-layer : (x : E.Expr-F Expr Place) → expression_depth (E.roll-Expr x) ≡ expression_depth_step (E.map-Expr Expr Place ℕ (Option ℕ) expression_depth index_depth x)
-expression_depth-layer x = E.fold-roll-Expr ℕ (Option ℕ) expression_depth_step index_depth_step x
-
-pub index_depth-layer : (x : P.Place-F Expr Place) → index_depth (P.roll-Place x) ≡ index_depth_step (P.map-Place Expr Place ℕ (Option ℕ) expression_depth index_depth x)
-index_depth-layer x = P.fold-roll-Place ℕ (Option ℕ) expression_depth_step index_depth_step x
-
-pub statement_depth-layer : (x : S.Stmt-F Stmt) → statement_depth (S.roll-Stmt x) ≡ statement_depth_step (S.map-Stmt Stmt ℕ statement_depth x)
-statement_depth-layer x = S.fold-roll-Stmt ℕ statement_depth_step x
-
 pub ruleset fit_layers = (expression_names-layer, place_names-layer, statement_names-layer, place_spares-layer, statement_spares-layer, statement_turns-layer, statement_gives-layer, statement_ends-layer)
-
-pub ruleset measure_layers = (expression_words-layer, access_words-layer, statement_words-layer, declared_count-layer, expression_depth-layer, index_depth-layer, statement_depth-layer)

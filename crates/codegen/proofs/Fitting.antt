@@ -1,6 +1,7 @@
 -- The code of each expression that fits, by induction on its tree.
 use Rattle.std.proofs.Common.{◌≡◌, ℕ, ◌+◌, List, [], ◌∷◌, length, map, sym, subst}
 use Rattle.std.specs.Prelude.{Bool, true, Option, max, sum}
+use Rattle.std.proofs.lemmas.Bool.{and_parts}
 use Rattle.std.proofs.lemmas.List.Sums.{sum_by-cons}
 use Rattle.std.proofs.Math.Nat.{le-max_left, le-max_right}
 use Rattle.task_syntax.specs.declared.program.Program.{Program}
@@ -21,8 +22,8 @@ use Rattle.codegen.specs.Fit.{Sparing, expression_names, expression_names_step, 
 use Rattle.codegen.proofs.Agreement.{names_of}
 use Rattle.codegen.proofs.Operands.{Gives, number_gives, unary_gives, binary_gives}
 use Rattle.codegen.proofs.Gives.{AllGive, none_give, more_give}
-use Rattle.codegen.proofs.Variables.{Small, GoodPlace, plain_good, item_good, variable_stands, both}
-use Rattle.codegen.proofs.Trees.{ExpressionCases, every_expression, every_place}
+use Rattle.codegen.proofs.Variables.{Small, GoodPlace, plain_good, item_good, variable_stands}
+use Rattle.task_syntax.proofs.Trees.{ExpressionCases, every_expression, every_place}
 
 pub sum-cons : (first : ℕ) (more : List ℕ) → sum (first ∷ more) ≡ first + sum more
 sum-cons first more = sum_by-cons (λ n. n) first more
@@ -81,7 +82,7 @@ module _ (words : List ℕ) (program : Program) (full : HasNoEmptyArray program)
     get = λ place good. layer (E.Expr-F.Get place) good.read;
     one = λ op operand good. layer (E.Expr-F.One op operand) (λ scope small fits. unary_gives words count scope op _ _ _ _ (good scope small fits));
     two = λ op left right good other. layer (E.Expr-F.Two op left right) (λ scope small fits.
-        let f = both (expression_names program left (names_of scope)) (expression_names program right (names_of scope)) fits in
+        let f = and_parts (expression_names program left (names_of scope)) (expression_names program right (names_of scope)) fits in
         let a = expression_depth left in
         let b = expression_depth right in
         binary_gives words count scope op _ _ (max a (1 + b)) a b _ _ _ _ (le-max_left a (1 + b)) (le-max_right a (1 + b)) (good scope small f.0) (other scope small f.1));
@@ -100,7 +101,7 @@ module _ (words : List ℕ) (program : Program) (full : HasNoEmptyArray program)
       AllGive words count scope (expressions_code program es scope) (length es) (map expression_depth es) (expressions_cost es) (expressions program es)
   all_give [] scope small fits = none_give words count scope
   all_give (e ∷ es) scope small fits =
-      let f = both (expression_names program e (names_of scope)) (expressions_names program es (names_of scope)) fits in
+      let f = and_parts (expression_names program e (names_of scope)) (expressions_names program es (names_of scope)) fits in
       subst (λ cost. AllGive words count scope (expressions_code program (e ∷ es) scope) (length (e ∷ es)) (map expression_depth (e ∷ es)) cost (expressions program (e ∷ es)))
       (sym (sum-cons (expression_cost e) (map expression_cost es)))
       (more_give words count scope (expression_code program e scope) (expressions_code program es scope) (length es) (expression_depth e) (map expression_depth es)

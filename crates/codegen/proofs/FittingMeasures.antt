@@ -1,6 +1,7 @@
 -- Bodies of an accepted program are small enough, and its arrays are not empty.
 use Rattle.std.proofs.Common.{◌≡◌, ℕ, ◌≤◌, ◌<◌, [], length, arith}
-use Rattle.std.specs.Prelude.{true, false, ◌&&◌, max, nat_lt, nat_le, flat_map, Option, Some, None}
+use Rattle.std.specs.Prelude.{false, ◌&&◌, max, nat_lt, flat_map}
+use Rattle.std.specs.Cmp.{first_so}
 use Rattle.std.proofs.lemmas.Bool.Decides.{nat_tests}
 use Rattle.std.proofs.lemmas.List.Elements.{All-weaker}
 use Rattle.task_syntax.specs.declared.program.Program.{Program}
@@ -16,8 +17,9 @@ use Rattle.task_check.specs.Accepted.{IsAccepted}
 use Rattle.task_check.specs.Bodies.{BodyRead, bodies}
 use Rattle.task_check.specs.Counts.{bad_var, bad_turns, length_fits, init_fits}
 use Rattle.task_check.specs.Measures.{size_of}
-use Rattle.task_check.proofs.NoPlaces.{first-empty, held}
-use Rattle.codegen.proofs.NoPlaces.{none-each, test-fails, bound-holds, first-test}
+use Rattle.task_check.proofs.NoPlaces.{first-empty, held, test-fails}
+use Rattle.task_check.proofs.SizesHold.{count-some}
+use Rattle.codegen.proofs.NoPlaces.{none-each, bound-holds}
 use Rattle.codegen.proofs.KeptRules.{KeepsRules}
 
 module _ (program : Program) (body : BodyRead) (keeps : KeepsRules program body) where
@@ -36,16 +38,9 @@ module _ (program : Program) (body : BodyRead) (keeps : KeepsRules program body)
       words-small (body_cost program body.statements body.kind) (body_words body.statements body.kind)
       (test-fails (nat_lt 50000 (size_of program body)) (body.at, size_of program body) keeps.size)
 
-positive : (length : ℕ) → (nat_le 1 length && nat_le length 256) ≡ true → 0 < length
-positive length fits = (let first = first-test (nat_le 1 length) (nat_le length 256) fits in grind (arith, nat_tests))
-
-some-words : (length : Option ℕ) → length_fits length ≡ true → 0 < count_of length
-some-words None fits = omega arith
-some-words (Some length) fits = positive length fits
-
 pub no_empty_array : (program : Program) → IsAccepted program → HasNoEmptyArray program
 no_empty_array program accepted =
     All-weaker (λ (var : Var). bad_var var ≡ []) (λ (var : Var). 0 < count_of var.length)
-    (λ var none. some-words var.length (first-test (length_fits var.length) (init_fits var.length var.init) (held (length_fits var.length && init_fits var.length var.init) var.name.at none)))
+    (λ var none. count-some var.length (first_so (length_fits var.length) (init_fits var.length var.init) (held (length_fits var.length && init_fits var.length var.init) var.name.at none)))
     program.vars
     (none-each bad_var program.vars (first-empty (flat_map bad_var program.vars) (flat_map bad_turns (bodies program)) (accepted 4 (omega arith) (omega arith))))

@@ -3,6 +3,7 @@ use Rattle.std.proofs.Common.{ℕ, ◌+◌, ◌≤◌, List, arith}
 use Rattle.task_syntax.specs.Course.{Course, chain}
 use Rattle.word_code.specs.Machine.{State}
 use Rattle.word_code.specs.Following.{Follows}
+use Rattle.word_code.proofs.Following.{follows_in_more}
 
 -- the machine at a place, with operands and locals
 abbrev pub state : ℕ → List ℕ → List ℕ → State
@@ -21,17 +22,12 @@ module _ {A : Type 0} (words : List ℕ) (count : ℕ) (First Last : A → State
   follows_to limit more s course (Follows.stores _ left _ word value next rest_of instr runs move in_time rest) fits turn =
       Follows.stores more left s word value next rest_of instr runs move (omega (arith, in_time, fits)) (follows_to left left next rest_of rest (omega arith) turn)
 
--- more time does no harm
-pub follows_in : {A : Type 0} (words : List ℕ) (count : ℕ) (Arrived : A → State → Type 0) (limit more : ℕ) (s : State) (course : Course A) →
-    Follows words count Arrived limit s course → limit ≤ more → Follows words count Arrived more s course
-follows_in words count Arrived limit more s course follows fits = follows_to words count Arrived Arrived limit more s course follows fits (λ result t arrived. arrived)
-
 module _ {A B : Type 0} (words : List ℕ) (count : ℕ) (First : A → State → Type 0) (Last : B → State → Type 0) where
   -- a course and then the one that its answer leads to
   pub then_follows : (first second limit : ℕ) (s : State) (course : Course A) (next : A → Course B) → Follows words count First first s course → first + second ≤ limit →
       ((result : A) (t : State) → First result t → Follows words count Last second t (next result)) → Follows words count Last limit s (chain course next)
   then_follows first second limit s course next (Follows.arrives _ _ result arrived) fits rest =
-      follows_in words count Last second limit s (next result) (rest result s arrived) (omega (arith, fits))
+      follows_in_more words count Last second limit s (next result) (rest result s arrived) (omega (arith, fits))
   then_follows first second limit s course next (Follows.goes _ left _ to _ instr runs move in_time more) fits rest =
       Follows.goes limit (left + second) s to (chain course next) instr runs move (omega (arith, in_time, fits))
       (then_follows left second (left + second) to course next more (omega arith) rest)

@@ -3,7 +3,7 @@ use Rattle.std.proofs.Common.{◌≡◌, ℕ, ◌+◌, List, [], ◌∷◌, ◌+
 use Rattle.std.specs.Prelude.{Bool, true, false, ◌||◌, Option, Some, None, is_some, if◌then◌else◌}
 use Rattle.std.specs.List.{AllByRecursion}
 use Rattle.std.specs.Str.{bytes_eq}
-use Rattle.std.proofs.lemmas.Bool.{true≢false}
+use Rattle.std.proofs.lemmas.Bool.{or_left, true≢false}
 use Rattle.std.proofs.lemmas.Slice.Eq.{bytes_eq-Decides}
 use Rattle.task_syntax.specs.declared.name.Name.{Name}
 use Rattle.task_syntax.specs.declared.program.Program.{Program}
@@ -15,11 +15,9 @@ use Rattle.task_syntax.specs.declared.program.UnitDecl.TheVariants.{Lone, Tx}
 use Rattle.task_syntax.specs.Names.{Words, count_of, words_of, words_from, task_of, task_from, tasks, tasks_of_unit}
 use Rattle.task_check.specs.Scope.{Scope, meaning_of}
 use Rattle.task_check.specs.Mentions as rules
+use Rattle.codegen.proofs.Agreement.{same_text}
 use Rattle.codegen.proofs.Parted.{all-parts, all-turned}
-use Rattle.codegen.proofs.ScopedNames.{Tells, tells-joined, AreKnown, or-left, unfit, fine-lone}
-
-same_as_itself : (text : List ℕ) → bytes_eq text text ≡ true
-same_as_itself text = (bytes_eq-Decides text text).1 refl
+use Rattle.codegen.proofs.ScopedNames.{Tells, tells-joined, AreKnown, unfit, fine-lone}
 
 is_some-first : {A : Type 0} (here : Bool) (first : A) (later : Option A) → here ≡ true → is_some (if here then Some first else later) ≡ true
 is_some-first here first later is = rw is refl
@@ -34,7 +32,7 @@ variables-found first [] = tt
 variables-found first (var ∷ vars) =
     let behind = first + count_of var.length in
     let here : Words = record { first = first; length = var.length } in (
-      is_some-first (bytes_eq var.name.text var.name.text) here (words_from behind vars var.name.text) (same_as_itself var.name.text),
+      is_some-first (bytes_eq var.name.text var.name.text) here (words_from behind vars var.name.text) (same_text var.name.text),
       all-turned (λ (other : Var). is_some (words_from behind vars other.name.text) ≡ true) (λ (other : Var). is_some (words_from first (var ∷ vars) other.name.text) ≡ true)
           (λ other found. is_some-later (bytes_eq var.name.text other.name.text) here (words_from behind vars other.name.text) found) vars (variables-found behind vars),
     )
@@ -42,7 +40,7 @@ variables-found first (var ∷ vars) =
 tasks-found : (first : ℕ) (tasks : List TaskDecl) → AllByRecursion (λ (task : TaskDecl). is_some (task_from first tasks task.name.text) ≡ true) tasks
 tasks-found first [] = tt
 tasks-found first (task ∷ more) = (
-  is_some-first (bytes_eq task.name.text task.name.text) first (task_from (first + 1) more task.name.text) (same_as_itself task.name.text),
+  is_some-first (bytes_eq task.name.text task.name.text) first (task_from (first + 1) more task.name.text) (same_text task.name.text),
   all-turned (λ (other : TaskDecl). is_some (task_from (first + 1) more other.name.text) ≡ true) (λ (other : TaskDecl). is_some (task_from first (task ∷ more) other.name.text) ≡ true)
       (λ other found. is_some-later (bytes_eq task.name.text other.name.text) first (task_from (first + 1) more other.name.text) found) more (tasks-found (first + 1) more),
 )
@@ -81,7 +79,7 @@ module _ (program : Program) where
   variable-tells : (name : Name) (length : Option ℕ) → IsVariable name.text → Tells program (rules.declares (rules.var_meaning length) name []).scope []
   variable-tells name None is = record {
     plain = λ other fine. fine-lone _ ((is_some (words_of program other.text) || false) ≡ true) _ (bytes_eq other.text name.text) refl
-        (λ here f. or-left (is_some (words_of program other.text)) false (of_same IsVariable name other is here)) (λ f. unfit f.fitting) fine.0;
+        (λ here f. or_left (is_some (words_of program other.text)) false (of_same IsVariable name other is here)) (λ f. unfit f.fitting) fine.0;
     item = λ other fine. fine-lone _ (IsVariable other.text) _ (bytes_eq other.text name.text) refl
         (λ here f. unfit f.fitting) (λ f. unfit f.fitting) fine.0;
     next = λ other fine. fine-lone _ (IsTask other.text) _ (bytes_eq other.text name.text) refl

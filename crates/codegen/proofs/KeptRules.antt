@@ -1,5 +1,5 @@
 -- What each body of an accepted program keeps to by itself.
-use Rattle.std.proofs.Common.{◌≡◌, ℕ, List, [], ◌∷◌, map, refl, arith}
+use Rattle.std.proofs.Common.{◌≡◌, ℕ, List, [], ◌∷◌, map, arith}
 use Rattle.std.specs.Prelude.{flat_map, All}
 use Rattle.std.specs.List.{AllByRecursion}
 use Rattle.std.proofs.lemmas.List.Elements.{All-from_recursion, recursion_from_All}
@@ -14,7 +14,7 @@ use Rattle.task_check.specs.Endings.{no_ending}
 use Rattle.task_check.specs.Loops.{loop_assigned}
 use Rattle.task_check.specs.Measures.{too_many_locals, too_deep_stack, too_long}
 use Rattle.codegen.proofs.Parted.{all-left, all-right}
-use Rattle.task_check.proofs.NoPlaces.{second-empty}
+use Rattle.task_check.proofs.NoPlaces.{none-mapped, second-empty}
 use Rattle.codegen.proofs.NoPlaces.{none-each}
 
 -- a body breaks none of the rules that are read in it
@@ -30,10 +30,6 @@ pub record KeepsRules (program : Program) (body : BodyRead) : Type 0 where
 pub record HalvesKeepRules (program : Program) (event : Event) : Type 0 where
   pub top : KeepsRules program (top_half event)
   pub bottom : KeepsRules program (bottom_half event)
-
-none-mapped : {A B : Type 0} (f : A → B) (xs : List A) → map f xs ≡ [] → xs ≡ []
-none-mapped f [] none = refl
-none-mapped f (x ∷ xs) none = absurd (cc)
 
 module _ (program : Program) (accepted : IsAccepted program) where
   pub each_body : All (KeepsRules program) (bodies program)

@@ -1,6 +1,7 @@
 -- Where no rule of names is broken, names that are used are known and names that are declared are new, layer by layer.
 use Rattle.std.proofs.Common.{◌≡◌, ℕ, List, [], ◌∷◌, ◌++◌, refl, sym, subst}
 use Rattle.std.specs.Prelude.{Bool, true, ◌&&◌, not, Option, Some, None, is_some}
+use Rattle.std.proofs.lemmas.Bool.{and_from}
 use Rattle.std.specs.List.{AllByRecursion}
 use Rattle.task_syntax.specs.declared.name.Name.{Name}
 use Rattle.task_syntax.specs.declared.program.Program.{Program}
@@ -16,10 +17,9 @@ use Rattle.task_check.specs.Loops.{is_among}
 use Rattle.task_check.specs.Mentions as rules
 use Rattle.task_check.specs.Mentions.{Mention}
 use Rattle.codegen.specs.Fit.{Passed, Part, expression_names, place_names, expressions_names, expression_names_step, place_names_step, statement_names, statement_names_step, statements_names}
-use Rattle.codegen.proofs.NoPlaces.{both-tests}
 use Rattle.codegen.proofs.Parted.{all-left, all-right}
 use Rattle.codegen.proofs.ScopedNames.{IsFine, AllFine, AreKnown, one_more, new_local}
-use Rattle.codegen.proofs.Trees.{ExpressionCases, every_expression, every_place, StatementCases, AllOtherwise, every_statement_of}
+use Rattle.task_syntax.proofs.Trees.{ExpressionCases, every_expression, every_place, StatementCases, AllOtherwise, every_statement_of}
 
 -- what some parts of a program mention
 abbrev Names : Type 0
@@ -33,7 +33,7 @@ module _ (program : Program) where
   both-used : (one other : List (List ℕ) → Bool) (first second : Names) → AreUsed one first → AreUsed other second →
       AreUsed (λ known. one known && other known) (λ scope. first scope ++ second scope)
   both-used one other first second used also scope known are fine =
-      both-tests (one known) (other known) (used scope known are (all-left IsFine (first scope) (second scope) fine)) (also scope known are (all-right IsFine (first scope) (second scope) fine))
+      and_from (one known) (other known) (used scope known are (all-left IsFine (first scope) (second scope) fine)) (also scope known are (all-right IsFine (first scope) (second scope) fine))
 
   expression-rolled : (x : E.Expr-F Expr Place) →
       AreUsed (expression_names_step program (E.map-Expr Expr Place (List (List ℕ) → Bool) (List (List ℕ) → Bool) (expression_names program) (place_names program) x))
@@ -68,7 +68,7 @@ module _ (program : Program) where
         (both-used (expression_names program left) (expression_names program right) (rules.expression_mentions left) (rules.expression_mentions right) used also);
     plain = λ name. place-rolled (P.Place-F.Plain name) (λ scope known are fine. are.tells.plain name fine);
     item = λ name index used. place-rolled (P.Place-F.Item name index) (λ scope known are fine.
-        both-tests (is_some (words_of program name.text)) (expression_names program index known) (are.tells.item name (fine.0, tt)) (used scope known are fine.1));
+        and_from (is_some (words_of program name.text)) (expression_names program index known) (are.tells.item name (fine.0, tt)) (used scope known are fine.1));
   }
 
   known-expression : (e : Expr) → IsKnownExpression e
@@ -109,14 +109,14 @@ module _ (program : Program) where
       let one = each.0 scope known are (all-left IsFine here.mentions rest.mentions fine) in
       let passed = statement_names program first known in
       let others = known-block more each.1 here.scope passed.known one.known (all-right IsFine here.mentions rest.mentions fine) in
-      record { fits = both-tests passed.fits (statements_names program more passed.known).fits one.fits others.fits; known = others.known }
+      record { fits = and_from passed.fits (statements_names program more passed.known).fits one.fits others.fits; known = others.known }
 
   declared-known : (name : Name) (e : Expr) → IsKnown (S.roll-Stmt (S.Stmt-F.Let name e))
   declared-known name e = rolled (S.Stmt-F.Let name e) (λ scope known are fine.
       let names = rules.expression_mentions e scope in
       let new = (all-right IsFine names (rules.mention _ name scope ∷ []) fine).0.new in
       record {
-        fits = both-tests (expression_names program e known) (not (is_among known name.text)) (known-expression e scope known are (all-left IsFine names _ fine)) (new_local program scope known name.text new are);
+        fits = and_from (expression_names program e known) (not (is_among known name.text)) (known-expression e scope known are (all-left IsFine names _ fine)) (new_local program scope known name.text new are);
         known = one_more program scope known name e new are;
       })
 
@@ -135,8 +135,8 @@ module _ (program : Program) where
       let inner = (rules.statements_part block scope).mentions in
       let behind = all-right IsFine names (inner ++ []) fine in
       used-known scope known (expression_names program condition known && ((statements_names program block known).fits && true)) are
-      (both-tests (expression_names program condition known) ((statements_names program block known).fits && true) (known-expression condition scope known are (all-left IsFine names (inner ++ []) fine))
-      (both-tests (statements_names program block known).fits true (known-block block each scope known are (all-left IsFine inner [] behind)).fits refl)))
+      (and_from (expression_names program condition known) ((statements_names program block known).fits && true) (known-expression condition scope known are (all-left IsFine names (inner ++ []) fine))
+      (and_from (statements_names program block known).fits true (known-block block each scope known are (all-left IsFine inner [] behind)).fits refl)))
   chosen-known condition block (Some other) each rest = rolled (S.Stmt-F.If condition block (Some other)) (λ scope known are fine.
       let names = rules.expression_mentions condition scope in
       let inner = (rules.statements_part block scope).mentions in
@@ -145,15 +145,15 @@ module _ (program : Program) where
       let one = (statements_names program block known).fits in
       let two = (statements_names program other known).fits in
       used-known scope known (expression_names program condition known && (one && two)) are
-      (both-tests (expression_names program condition known) (one && two) (known-expression condition scope known are (all-left IsFine names (inner ++ others) fine))
-      (both-tests one two (known-block block each scope known are (all-left IsFine inner others behind)).fits (known-block other rest scope known are (all-right IsFine inner others behind)).fits)))
+      (and_from (expression_names program condition known) (one && two) (known-expression condition scope known are (all-left IsFine names (inner ++ others) fine))
+      (and_from one two (known-block block each scope known are (all-left IsFine inner others behind)).fits (known-block other rest scope known are (all-right IsFine inner others behind)).fits)))
 
   repeated-known : (name : Name) (count : ℕ) (block : List Stmt) → AllByRecursion IsKnown block → IsKnown (S.roll-Stmt (S.Stmt-F.Repeat name count block))
   repeated-known name count block each = rolled (S.Stmt-F.Repeat name count block) (λ scope known are fine.
       let new = fine.0.new in
       let inner = (statements_names program block (name.text ∷ known)).fits in
       used-known scope known (not (is_among known name.text) && inner) are
-      (both-tests (not (is_among known name.text)) inner (new_local program scope known name.text new are)
+      (and_from (not (is_among known name.text)) inner (new_local program scope known name.text new are)
       (known-block block each _ (name.text ∷ known) (one_more program scope known name (E.roll-Expr (E.Expr-F.Num count)) new are) fine.1).fits))
 
   known_names : StatementCases IsKnown

@@ -1,11 +1,9 @@
 pub mod Agreement
-pub mod Built
 pub mod CodeLayers
 pub mod Examples
 pub mod Following
 pub mod Parted
 pub mod Placed
-pub mod Trees
 pub mod Operands
 pub mod Statements
 pub mod Straight

@@ -1,6 +1,7 @@
 -- The code of a loop.
 use Rattle.std.proofs.Common.{◌≡◌, ℕ, zero, suc, ◌+◌, ◌*◌, ◌%◌, ◌<◌, ◌≤◌, List, [], ◌∷◌, ◌++◌, length, refl, sym, ap, ◌∙◌, subst, arith, length-set}
 use Rattle.std.specs.Prelude.{true, false, ◌==◌, if◌then◌else◌, slice_index_or, slice_set}
+use Rattle.std.proofs.lemmas.Bool.{or_right}
 use Rattle.std.specs.Str.{bytes_eq}
 use Rattle.std.proofs.lemmas.List.{get_or-set_same}
 use Rattle.std.proofs.lemmas.Bool.Decides.{nat_tests}
@@ -18,9 +19,10 @@ use Rattle.codegen.specs.Code.{size, end_of, head_code, turn_code, loop_code}
 use Rattle.codegen.specs.Scope.{Scope, declare}
 use Rattle.codegen.specs.Templates.{Compiled}
 use Rattle.task_check.specs.Loops.{is_among}
-use Rattle.codegen.proofs.Following.{state, follows_in, then_follows}
+use Rattle.word_code.proofs.Following.{follows_in_more}
+use Rattle.codegen.proofs.Following.{state, then_follows}
 use Rattle.codegen.proofs.Placed.{Stands, size-append, encodable_both, stands_front, stands_back}
-use Rattle.codegen.proofs.Agreement.{names_of, Agrees, Grows, Sound, grows_on, agrees_less, agrees_past, agrees_more, declare_grows, other_value, differs, or-right, slot_here, value_here, among_here}
+use Rattle.codegen.proofs.Agreement.{names_of, Agrees, Grows, Sound, grows_on, agrees_less, agrees_past, agrees_more, declare_grows, other_value, differs, slot_here, value_here, among_here}
 use Rattle.codegen.proofs.Operands.{runs_at}
 use Rattle.codegen.proofs.Statements.{Reached, Works}
 use Rattle.codegen.proofs.Choices.{block_of}
@@ -108,7 +110,7 @@ module _ (words : List ℕ) (count : ℕ) where
           (tail_follows After (end_of block.code b) h slot turn (turns_cost left c) r.ls (turns left (turn + 1) name f after) got few tail
           (more ls after (get_or-set_same r.ls slot (turn + 1) 0 within) (length-set r.ls slot (turn + 1) ∙ r.long)
           (agrees_past scope loops after r.ls slot (turn + 1) sound (omega arith) outside)
-          (λ other known. r.kept other (or-right (bytes_eq other name) (is_among loops other) known)
+          (λ other known. r.kept other (or_right (bytes_eq other name) (is_among loops other) known)
           ∙ other_value name turn values other (differs (names_of scope.locals) name other new (sound.loops_known other known)) ∙ kept other known)))
       turn_rest left turn values kept few more (Way.out ending) s r = Follows.arrives (5 + turns_cost left c) s (Way.out ending) r
 
@@ -126,7 +128,7 @@ module _ (words : List ℕ) (count : ℕ) where
           head_follows After h q scope.next most turn 1 (c + (5 + T)) ls course is goes head
           (subst (λ x. Follows words count After (c + (5 + T)) (state x [] ls) course) (sym eb)
           (then_follows words count (Reached words count false (end_of block.code b) block.behind.locals (name ∷ loops) values1) After c (5 + T) (c + (5 + T)) (state b [] ls) (f values1) (unless_out (turns left (turn + 1) name f))
-          (follows_in words count (Reached words count false (end_of block.code b) block.behind.locals (name ∷ loops) values1) w.limit c (state b [] ls) (f values1)
+          (follows_in_more words count (Reached words count false (end_of block.code b) block.behind.locals (name ∷ loops) values1) w.limit c (state b [] ls) (f values1)
           (w.by b ls values1 stands long (agrees_more scope values ls name turn is agrees)) (omega (arith, w.in_time)))
           (omega arith)
           (turn_rest left turn values kept (omega (arith, few, sum)) (turns_follow few eb stands w left (turn + 1) (omega (arith, sum))))))
@@ -173,5 +175,5 @@ module _ (words : List ℕ) (count : ℕ) where
             (Follows.goes (1 + T) T (state (p + 2) (0 ∷ []) ls) (state (p + 2 + 2) [] ls0) (turns most 0 name f values) (SetL slot)
             (runs_at words count (SetL slot) (state (p + 2) (0 ∷ []) ls) stands.1.0 (record { operands = omega arith; room = omega arith; word = tt })) refl (omega arith) moved) in
             subst (λ z. Follows words count (Reached words count false z scope.locals loops values) (loop_cost most c) (state p [] ls) (turns most 0 name f values)) e
-            (follows_in words count Last (2 + T) (loop_cost most c) (state p [] ls) (turns most 0 name f values) whole (omega (arith, turns_cost-is most c)));
+            (follows_in_more words count Last (2 + T) (loop_cost most c) (state p [] ls) (turns most 0 name f values) whole (omega (arith, turns_cost-is most c)));
       }

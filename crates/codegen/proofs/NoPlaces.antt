@@ -1,10 +1,10 @@
 -- What it says that a rule is broken nowhere: that no part of what was found has a place.
-use Rattle.std.proofs.Common.{◌≡◌, ℕ, ◌≤◌, List, [], ◌∷◌, refl, arith}
-use Rattle.std.specs.Prelude.{Bool, true, false, ◌&&◌, nat_lt, flat_map, All, if◌then◌else◌}
+use Rattle.std.proofs.Common.{◌≡◌, ℕ, ◌≤◌, List, [], ◌∷◌, arith}
+use Rattle.std.specs.Prelude.{false, nat_lt, flat_map, All}
 use Rattle.std.proofs.lemmas.Bool.Decides.{nat_tests}
 use Rattle.std.proofs.lemmas.List.Elements.{All-nil, All-cons}
 use Rattle.task_check.specs.Measures.{above}
-use Rattle.task_check.proofs.NoPlaces.{first-empty, second-empty}
+use Rattle.task_check.proofs.NoPlaces.{first-empty, second-empty, test-fails}
 
 -- of each of several
 module _ {X A : Type 0} (found : X → List A) where
@@ -13,25 +13,8 @@ module _ {X A : Type 0} (found : X → List A) where
   none-each (x ∷ xs) none =
       All-cons (λ x. found x ≡ []) x xs (first-empty (found x) (flat_map found xs) none) (none-each xs (second-empty (found x) (flat_map found xs) none))
 
--- where a test decides whether there is something
-pub test-fails : {A : Type 0} (holds : Bool) (x : A) → (if holds then x ∷ [] else []) ≡ [] → holds ≡ false
-test-fails true x none = absurd (cc)
-test-fails false x none = refl
-
 not_above : (bound number : ℕ) → nat_lt bound number ≡ false → number ≤ bound
 not_above bound number is = grind (arith, nat_tests)
 
 pub bound-holds : (bound number at : ℕ) → above bound number at ≡ [] → number ≤ bound
 bound-holds bound number at none = not_above bound number (test-fails (nat_lt bound number) at none)
-
--- both of two tests
-pub first-test : (one other : Bool) → (one && other) ≡ true → one ≡ true
-first-test true other both = refl
-first-test false other both = both
-
-pub second-test : (one other : Bool) → (one && other) ≡ true → other ≡ true
-second-test true other both = both
-second-test false other both = absurd (cc)
-
-pub both-tests : (one other : Bool) → one ≡ true → other ≡ true → (one && other) ≡ true
-both-tests one other first second = rw (first, second) refl

@@ -13,6 +13,7 @@ use Rattle.task_syntax.specs.declared.body.BodyId.TheVariants.{Task, Top, Bottom
 use Rattle.task_syntax.specs.Names.{tasks}
 use Rattle.word_code.specs.Code.{IsInItsPart, number_of}
 use Rattle.task_check.specs.Bodies.{BodyRead, task_body, top_half, bottom_half, halves, bodies}
+use Rattle.task_check.proofs.Midst.{slice_get-behind}
 use Rattle.codegen.specs.Bodies.{body_of, words_of_body, EachFits}
 use Rattle.codegen.specs.CodeLaws.{StandsByNumber}
 use Rattle.codegen.specs.Fit.{Fits}
@@ -22,10 +23,6 @@ in-front : {X : Type 0} (xs ys : List X) (i : ℕ) (x : X) → slice_get xs i �
 in-front [] ys i x h = absurd (let never : None ≡ Some x = h in cc)
 in-front (y ∷ xs) ys zero x h = h
 in-front (y ∷ xs) ys (suc i) x h = in-front xs ys i x h
-
-behind-front : {X : Type 0} (xs ys : List X) (i : ℕ) → slice_get (xs ++ ys) (length xs + i) ≡ slice_get ys i
-behind-front [] ys i = ap (slice_get ys) (omega arith)
-behind-front (x ∷ xs) ys i = let e : length (x ∷ xs) + i ≡ suc (length xs + i) = omega arith in ap (slice_get ((x ∷ xs) ++ ys)) e ∙ behind-front xs ys i
 
 -- the two halves of an event among those of all events
 top-among : (events : List Event) (i : ℕ) → slice_get (flat_map halves events) (2 * i) ≡ option_map top_half (slice_get events i)
@@ -49,7 +46,7 @@ module _ (program : Program) where
   body-behind i =
       let front = map task_body (tasks program) in
       let e : length (tasks program) + i ≡ length front + i = omega (arith, length-map (tasks program) task_body) in
-      ap (slice_get (bodies program)) e ∙ behind-front front (flat_map halves program.events) i
+      ap (slice_get (bodies program)) e ∙ slice_get-behind front (flat_map halves program.events) i
 
   body-found : (number : BodyId) (body : BodyRead) → body_of program number ≡ Some body → slice_get (bodies program) (number_of (length (tasks program)) number) ≡ Some body
   body-found (Task task) body h = in-front (map task_body (tasks program)) (flat_map halves program.events) task body (slice_get-map task_body (tasks program) task ∙ h)

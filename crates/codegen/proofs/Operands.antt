@@ -1,5 +1,5 @@
 -- The code of expressions pushes their values.
-use Rattle.std.proofs.Common.{◌≡◌, ℕ, zero, suc, ◌+◌, ◌<◌, ◌≤◌, List, [], ◌∷◌, ◌++◌, length, refl, sym, ap, subst, arith}
+use Rattle.std.proofs.Common.{◌≡◌, ℕ, ◌+◌, ◌<◌, ◌≤◌, List, [], ◌∷◌, ◌++◌, length, refl, sym, ap, subst, arith}
 use Rattle.std.specs.Prelude.{Some, None, slice_index_or}
 use Rattle.coati_word.specs.declared.operator.Op.{Op}
 use Rattle.coati_word.specs.declared.operator.Op1.{Op1}
@@ -7,6 +7,7 @@ use Rattle.coati_word.specs.Operator.{operator_value, unary_value, remainder}
 use Rattle.task_syntax.specs.Course.{Course, chain}
 use Rattle.task_syntax.specs.Names.{Words, count_of}
 use Rattle.task_syntax.specs.Expressions.{Locals, Aim, plain_aim, item_aim, value_at}
+use Rattle.task_syntax.proofs.VariableWords.{remainder-below}
 use Rattle.word_code.specs.declared.instruction.Instr.{Instr}
 use Rattle.word_code.specs.declared.instruction.Instr.TheVariants.{Push, GetL, LoadV, LoadX, Two, One}
 use Rattle.word_code.specs.Machine.{State, CanRun}
@@ -20,10 +21,6 @@ use Rattle.codegen.proofs.Agreement.{Agrees}
 -- a value is on the operands, and the machine at a place
 abbrev pub Pushed : ℕ → List ℕ → List ℕ → ℕ → State → Type 0
 Pushed place operands ls value s = s ≡ state place (value ∷ operands) ls
-
-pub remainder-below : (a b : ℕ) → 0 < b → remainder a b < b
-remainder-below a zero some = absurd (omega arith)
-remainder-below a (suc b) some = omega arith
 
 module _ (words : List ℕ) (count : ℕ) where
   -- an instruction that can run here

@@ -4,7 +4,7 @@ use Rattle.std.specs.Prelude.{Bool, true, false, ◌||◌, not, Option, Some, No
 use Rattle.std.specs.List.{AllByRecursion, filter}
 use Rattle.std.specs.Map.{lookup}
 use Rattle.std.specs.Str.{bytes_eq}
-use Rattle.std.proofs.lemmas.Bool.{true≢false}
+use Rattle.std.proofs.lemmas.Bool.{or_left, or_right, true≢false}
 use Rattle.task_syntax.specs.declared.name.Name.{Name}
 use Rattle.task_syntax.specs.declared.program.Program.{Program}
 use Rattle.task_syntax.specs.declared.expression.Expr.{Expr}
@@ -72,14 +72,6 @@ fine-joined m Told one two name is first second fine =
     of_found (λ found. IsFine (record m { meaning = found })) Told (meaning_of one name) (meaning_of two name) first second
     (subst (λ found. IsFine (record m { meaning = found })) (is ∙ lookup-joined (bytes_eq name) one two) fine)
 
-or-right : (a b : Bool) → b ≡ true → (a || b) ≡ true
-or-right true b h = refl
-or-right false b h = h
-
-pub or-left : (a b : Bool) → a ≡ true → (a || b) ≡ true
-or-left true b h = refl
-or-left false b h = absurd (cc)
-
 module _ (program : Program) where
   -- a name that is used and fits is a variable or a task, or a local that is known
   pub record Tells (scope : Scope) (known : List (List ℕ)) : Type 0 where
@@ -96,7 +88,7 @@ module _ (program : Program) where
 
   or-between : (a b c : Bool) → (a || c) ≡ true → (a || (b || c)) ≡ true
   or-between true b c h = refl
-  or-between false b c h = or-right b c h
+  or-between false b c h = or_right b c h
 
   tells-more : (scope : Scope) (known : List (List ℕ)) (name : List ℕ) → Tells scope known → Tells scope (name ∷ known)
   tells-more scope known name tells = record {
@@ -133,7 +125,7 @@ module _ (program : Program) where
   lone-tells : (name : Name) (e : Expr) (known : List (List ℕ)) → Tells program (scope_with name e []) (name.text ∷ known)
   lone-tells name e known = record {
     plain = λ other fine. fine-lone _ ((is_some (words_of program other.text) || (bytes_eq other.text name.text || is_among known other.text)) ≡ true) _ (bytes_eq other.text name.text) refl
-        (λ here f. or-right (is_some (words_of program other.text)) (bytes_eq other.text name.text || is_among known other.text) (or-left (bytes_eq other.text name.text) (is_among known other.text) here))
+        (λ here f. or_right (is_some (words_of program other.text)) (bytes_eq other.text name.text || is_among known other.text) (or_left (bytes_eq other.text name.text) (is_among known other.text) here))
         (λ f. unfit f.fitting) fine.0;
     item = λ other fine. fine-lone _ (is_some (words_of program other.text) ≡ true) _ (bytes_eq other.text name.text) refl
         (λ here f. unfit f.fitting) (λ f. unfit f.fitting) fine.0;

@@ -25,7 +25,7 @@ use Rattle.codegen.specs.Scope.{Local, Scope, slot_of, declare, declare_all, no_
 use Rattle.codegen.specs.Templates.{PlaceCode, Template, plain_code, item_code, expression_code, expression_code_step, place_code, place_code_step, expressions_code, statement_code, statement_code_step, statements_code, body_code, body_words, end_code}
 use Rattle.codegen.proofs.Placed.{size-append, length-words_of}
 use Rattle.codegen.proofs.Fitting.{sum-cons}
-use Rattle.codegen.proofs.Trees.{ExpressionCases, every_expression, every_place, StatementCases, AllOtherwise, every_statement, every_statement_of}
+use Rattle.task_syntax.proofs.Trees.{ExpressionCases, every_expression, every_place, StatementCases, AllOtherwise, every_statement, every_statement_of}
 
 -- the index of a place and what loads or stores it have so many words
 pub record HasAccess (place : PlaceCode) (words : ℕ) : Type 0 where

@@ -1,6 +1,7 @@
 -- A body that assigns to no loop's name leaves the loops round each of its statements alone.
 use Rattle.std.proofs.Common.{◌≡◌, ℕ, List, [], ◌∷◌, ◌++◌, refl, sym, ap, ◌∙◌}
 use Rattle.std.specs.Prelude.{Bool, true, false, not, flat_map, Option, Some, None, if◌then◌else◌}
+use Rattle.std.proofs.lemmas.Bool.{and_from}
 use Rattle.std.specs.List.{AllByRecursion}
 use Rattle.task_syntax.specs.declared.program.Program.{Program}
 use Rattle.task_syntax.specs.declared.name.Name.{Name}
@@ -12,9 +13,8 @@ use Rattle.task_syntax.specs.declared.statement.Stmt as S
 use Rattle.task_check.specs.Bodies.{BodyRead}
 use Rattle.task_check.specs.Loops.{Within, is_among, place_among, plain_name, plain_step, nothing_step, assigned_in, assigned_step, assigned_in_block}
 use Rattle.codegen.specs.Fit.{Sparing, place_spares, place_spares_step, expression_spares_step, statement_spares, statement_spares_step, statements_spare}
-use Rattle.codegen.proofs.Trees.{every_place, StatementCases, AllOtherwise, every_statement_of}
+use Rattle.task_syntax.proofs.Trees.{every_place, StatementCases, AllOtherwise, every_statement_of}
 use Rattle.task_check.proofs.NoPlaces.{first-empty, second-empty}
-use Rattle.codegen.proofs.NoPlaces.{both-tests}
 use Rattle.codegen.proofs.KeptRules.{KeepsRules}
 
 -- a place to which no loop's name is assigned
@@ -59,16 +59,16 @@ rolled x spares loops none =
 block-spares : (block : List Stmt) → AllByRecursion Spares block → (loops : List (List ℕ)) → assigned_in_block block loops ≡ [] → statements_spare block loops ≡ true
 block-spares [] each loops none = refl
 block-spares (first ∷ more) each loops none =
-    both-tests (statement_spares first loops) (statements_spare more loops)
+    and_from (statement_spares first loops) (statements_spare more loops)
     (each.0 loops (first-empty (assigned_in first loops) (assigned_in_block more loops) none))
     (block-spares more each.1 loops (second-empty (assigned_in first loops) (assigned_in_block more loops) none))
 
 chosen-spares : (condition : Expr) (block : List Stmt) (other : Option (List Stmt)) → AllByRecursion Spares block → AllOtherwise Spares other →
     Spares (S.roll-Stmt (S.Stmt-F.If condition block other))
 chosen-spares condition block None each rest = rolled (S.Stmt-F.If condition block None) (λ loops none.
-    both-tests (statements_spare block loops) true (block-spares block each loops (first-empty (assigned_in_block block loops) [] none)) refl)
+    and_from (statements_spare block loops) true (block-spares block each loops (first-empty (assigned_in_block block loops) [] none)) refl)
 chosen-spares condition block (Some other) each rest = rolled (S.Stmt-F.If condition block (Some other)) (λ loops none.
-    both-tests (statements_spare block loops) (statements_spare other loops)
+    and_from (statements_spare block loops) (statements_spare other loops)
     (block-spares block each loops (first-empty (assigned_in_block block loops) (assigned_in_block other loops) none))
     (block-spares other rest loops (second-empty (assigned_in_block block loops) (assigned_in_block other loops) none)))
 

@@ -18,7 +18,8 @@ use Rattle.task_check.specs.Loops.{is_among}
 use Rattle.codegen.proofs.Following.{state, then_follows}
 use Rattle.codegen.proofs.Placed.{size-append, encodable_both, stands_front, stands_back}
 use Rattle.codegen.proofs.Agreement.{names_of, Sound, agrees_declared, agrees_assigned, other_value, differs}
-use Rattle.codegen.proofs.Operands.{Pushed, Aimed, Gives, aims_follow, runs_at, remainder-below}
+use Rattle.task_syntax.proofs.VariableWords.{remainder-below}
+use Rattle.codegen.proofs.Operands.{Pushed, Aimed, Gives, aims_follow, runs_at}
 use Rattle.codegen.proofs.Statements.{Reached, Works}
 
 pub not-true : (b : Bool) → not b ≡ true → b ≡ false

@@ -1,18 +1,16 @@
 -- Where variables stand, and the code of places.
-use Rattle.std.proofs.Common.{◌≡◌, ℕ, ◌+◌, ◌<◌, ◌≤◌, List, [], ◌∷◌, ◌++◌, refl, sym, subst, arith, inl, inr}
-use Rattle.std.specs.Prelude.{Bool, true, false, ◌&&◌, ◌||◌, not, Option, Some, None, All, is_some}
-use Rattle.std.specs.Str.{bytes_eq}
-use Rattle.std.proofs.lemmas.Bool.{cases_Bool, true≢false}
-use Rattle.std.proofs.lemmas.List.Elements.{All-head, All-tail}
+use Rattle.std.proofs.Common.{◌≡◌, ℕ, ◌+◌, ◌<◌, ◌≤◌, List, [], ◌∷◌, ◌++◌, refl, sym, subst, arith}
+use Rattle.std.specs.Prelude.{Bool, true, false, ◌&&◌, ◌||◌, not, Option, Some, None, is_some}
+use Rattle.std.proofs.lemmas.Bool.{true≢false}
 use Rattle.task_syntax.specs.declared.program.Program.{Program}
-use Rattle.task_syntax.specs.declared.program.Var.{Var}
 use Rattle.task_syntax.specs.ProgramLaws.{HasNoEmptyArray}
-use Rattle.task_syntax.specs.Names.{Words, words_from, words_of, count_of, word_count}
+use Rattle.task_syntax.specs.Names.{Words, words_of, word_count}
 use Rattle.task_syntax.specs.Course.{Course, chain}
 use Rattle.task_syntax.specs.Cost.{plain_store_cost}
 use Rattle.task_syntax.specs.Depth.{read_depth, store_depth}
 use Rattle.task_syntax.specs.Expressions.{Locals, Aim, plain_aim, item_aim, value_at}
 use Rattle.task_syntax.specs.Statements.{assigned}
+use Rattle.task_syntax.proofs.VariableWords.{StandsBelow, stands-below}
 use Rattle.word_code.specs.declared.instruction.Instr.{Instr}
 use Rattle.codegen.specs.Scope.{Local, Scope, slot_of}
 use Rattle.codegen.specs.Templates.{PlaceCode, plain_code, item_code, plainly}
@@ -23,34 +21,11 @@ use Rattle.codegen.proofs.Operands.{Gives, local_gives, word_gives, item_gives}
 use Rattle.codegen.proofs.Statements.{Works, works_in}
 use Rattle.codegen.proofs.Straight.{local_works, word_works, item_works}
 
--- the words of a variable stand from `first` on, and below `bound`
-pub record StandsBelow (variable : Words) (bound : ℕ) : Type 0 where
-  pub some : 0 < count_of variable.length
-  pub within : variable.first + count_of variable.length ≤ bound
-
-stands-below : (first : ℕ) (vars : List Var) (name : List ℕ) (variable : Words) → All (λ (var : Var). 0 < count_of var.length) vars →
-    words_from first vars name ≡ Some variable → StandsBelow variable (first + word_count vars)
-stands-below first [] name variable full found = absurd (let never : None ≡ Some variable = found in cc)
-stands-below first (var ∷ vars) name variable full found =
-    elim (cases_Bool (bytes_eq var.name.text name)) [
-      | inl same ↦ let here : Some (record { first = first; length = var.length }) ≡ Some variable = rw same at found in
-          let is : record { first = first; length = var.length } ≡ variable = cc in
-          let some = All-head (λ (v : Var). 0 < count_of v.length) var vars full in
-          rw (← is) (record { some = some; within = omega arith })
-      | inr other ↦ let there : words_from (first + count_of var.length) vars name ≡ Some variable = rw other at found in
-          let rest = stands-below (first + count_of var.length) vars name variable (All-tail (λ (v : Var). 0 < count_of v.length) var vars full) there in
-          record { some = rest.some; within = omega arith }
-    ]
-
 pub variable_stands : (program : Program) (name : List ℕ) (variable : Words) → HasNoEmptyArray program → words_of program name ≡ Some variable →
     StandsBelow variable (word_count program.vars)
 variable_stands program name variable full is =
     let all = stands-below 0 program.vars name variable full is in
     record { some = all.some; within = omega (arith, all.within) }
-
-pub both : (a b : Bool) → (a && b) ≡ true → (a ≡ true) × (b ≡ true)
-both true b h = (refl, h)
-both false b h = absurd (true≢false (sym h))
 
 -- the slots of these locals are below 32
 pub record Small (scope : List Local) : Type 0 where

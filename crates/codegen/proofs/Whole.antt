@@ -3,7 +3,7 @@ use Rattle.std.proofs.Common.{◌≡◌, ℕ, List, [], ◌∷◌, length, map}
 use Rattle.std.specs.Prelude.{Bool, true, Option, Some, None, is_some}
 use Rattle.std.specs.List.{AllByRecursion}
 use Rattle.std.specs.Option.{unwrap_or}
-use Rattle.std.proofs.lemmas.Bool.{true≢false, leb-true}
+use Rattle.std.proofs.lemmas.Bool.{and_parts, leb-true, true≢false}
 use Rattle.std.proofs.Common.{sym}
 use Rattle.task_syntax.specs.declared.program.Program.{Program}
 use Rattle.task_syntax.specs.declared.expression.Expr.{Expr}
@@ -27,10 +27,10 @@ use Rattle.codegen.proofs.Agreement.{names_of}
 use Rattle.codegen.proofs.Statements.{Works}
 use Rattle.codegen.proofs.Straight.{next_works, halt_works}
 use Rattle.codegen.proofs.Gives.{give_works}
-use Rattle.codegen.proofs.Variables.{small_slots, both}
+use Rattle.codegen.proofs.Variables.{small_slots}
 use Rattle.codegen.proofs.Fitting.{good_expression, good_place, all_give, sum-cons}
 use Rattle.codegen.proofs.Blocks.{Good, plain_good, nothing_good, then_good, alone_good, declared_good, when_good, either_good, repeat_good}
-use Rattle.codegen.proofs.Trees.{StatementCases, AllOtherwise, every_statement_of}
+use Rattle.task_syntax.proofs.Trees.{StatementCases, AllOtherwise, every_statement_of}
 
 module _ (words : List ℕ) (program : Program) (full : HasNoEmptyArray program) where
   abbrev count : ℕ
@@ -97,7 +97,7 @@ module _ (words : List ℕ) (program : Program) (full : HasNoEmptyArray program)
         (declared_good words count name.text (expression_names program e) (expression_depth e) (expression_cost e) (expression_code program e) (expression program e) (good_expression words program full e));
     assigned = λ place e. layer (S.Stmt-F.Assign place e)
         (plain_good words count _ _ _ _ _ _ _ _ _ (λ scope loops sound small fit spared turned given deep.
-        let f = both (place_names program place (names_of scope.locals)) (expression_names program e (names_of scope.locals)) fit in
+        let f = and_parts (place_names program place (names_of scope.locals)) (expression_names program e (names_of scope.locals)) fit in
         (good_place words program full place).write scope loops sound small f.0 spared (expression_code program e) (expression_depth e) (expression_cost e) (expression program e) deep
         (good_expression words program full e scope.locals (small_slots scope loops sound small) f.1)));
     chosen = chosen_good;

@@ -7,6 +7,7 @@ use Rattle.std.proofs.lemmas.Bool.{cases_lt}
 use Rattle.std.proofs.lemmas.List.{append-nil}
 use Rattle.std.proofs.lemmas.List.Elements.{Contains-append_left, Contains-append_right, Contains-append_cases}
 use Rattle.std.proofs.Math.ListN.{get_or-eq_default}
+use Rattle.task_syntax.proofs.Moments.{Contains-head, Contains-tail}
 use Rattle.serial_run.specs.declared.kept.Touch.{Touch}
 use Rattle.serial_run.specs.Moments.{Marks}
 use Rattle.serial_run.specs.Runs.{untouched, shared_among, written_among}
@@ -22,12 +23,6 @@ get-last [] x zero is = refl
 get-last [] x (suc at) is = absurd (omega (arith, is))
 get-last (head ∷ more) x zero is = absurd (omega (arith, is))
 get-last (head ∷ more) x (suc at) is = get-last more x at (omega (arith, is))
-
-Contains-head : (first : ℕ) (more : List ℕ) → Contains (first ∷ more) first
-Contains-head first more = (0, omega arith, refl)
-
-Contains-tail : (first word : ℕ) (more : List ℕ) → Contains more word → Contains (first ∷ more) word
-Contains-tail first word more (k, below, is) = (suc k, omega arith, is)
 
 contains_none : (word : ℕ) → Contains [] word → ⊥
 contains_none word (k, below, is) = omega arith

@@ -1,6 +1,6 @@
 -- What is told of a run.
-use Rattle.std.proofs.Common.{◌≡◌, ℕ, List, [], length, refl, sym, ap, subst, ◌∙◌, true, false}
-use Rattle.std.specs.Prelude.{slice_index, Some, None}
+use Rattle.std.proofs.Common.{◌≡◌, ℕ, List, [], length, refl, sym, ap, subst, ◌∙◌, false}
+use Rattle.std.specs.Prelude.{slice_index, Some}
 use Rattle.coati_word.specs.declared.reading.Reading.{Reading}
 use Rattle.coati_word.specs.declared.ending.Ending.{Ending}
 use Rattle.task_syntax.specs.declared.program.Program.{Program}
@@ -74,10 +74,6 @@ ends-with course m = refl
 pub whole-outside : (program : Program) (task : ℕ) (store : Store) (count : ℕ) (reached : Reached) → tasks_effect program task store count ≡ Some reached → is_inside program task reached.place ≡ false →
     whole_effect program task store count ≡ Some reached
 whole-outside program task store count reached found outside = rw (found, outside) refl
-
-pub none-inside : (program : Program) (task : ℕ) (store : Store) (count : ℕ) (reached : Reached) → tasks_effect program task store count ≡ Some reached → is_inside program task reached.place ≡ true →
-    whole_effect program task store count ≡ None
-none-inside program task store count reached found inside = rw (found, inside) refl
 
 -- a run of a course that began on these words
 pub ran-from : {A : Type 0} (course : Course A) (before : List ℕ) (m n : Moment) → m ≡ reading_from before → n ≡ behind course m → n ≡ behind_all (accesses course (slice_index before)) (reading_from before)

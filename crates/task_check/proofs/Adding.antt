@@ -10,7 +10,7 @@ use Rattle.task_syntax.specs.declared.statement.Stmt as S
 use Rattle.task_check.specs.declared.meaning.Meaning.{Meaning}
 use Rattle.task_check.specs.declared.meaning.Meaning.TheVariants as meaning
 use Rattle.task_check.specs.Scope.{Scope, meaning_of}
-use Rattle.task_check.specs.Mentions.{Part, Mention, uses, declares, declares_all, chain, within, otherwise, statement_part, statement_part_step, statements_part}
+use Rattle.task_check.specs.Mentions.{Part, declares, declares_all, chain, otherwise, statement_part, statement_part_step, statements_part}
 
 -- the scope behind begins with the one before
 pub record AddsTo (old new : Scope) : Type 0 where
@@ -29,9 +29,6 @@ adds-more one two three first second = record { more = first.more ++ second.more
 pub first-names : (part : Part) (scope : Scope) → Adds part → take (length scope) (part scope).scope ≡ scope
 first-names part scope adds = ap (take (length scope)) (adds scope).is ∙ take-append_seam scope (adds scope).more
 
-uses-adds : (names : Scope → List Mention) → Adds (uses names)
-uses-adds names scope = adds-none scope
-
 pub declares-adds : (kind : Meaning) (name : Name) → Adds (declares kind name)
 declares-adds kind name scope =
     elim (cases_Bool (is_some (meaning_of scope name.text))) [
@@ -45,9 +42,6 @@ chain-adds first second one other scope = adds-more scope (first scope).scope (s
 pub declares_all-adds : (kind : Meaning) (names : List Name) → Adds (declares_all kind names)
 declares_all-adds kind [] scope = adds-none scope
 declares_all-adds kind (name ∷ names) scope = chain-adds (declares kind name) (declares_all kind names) (declares-adds kind name) (declares_all-adds kind names) scope
-
-within-adds : (block : Part) → Adds (within block)
-within-adds block scope = adds-none scope
 
 otherwise-adds : (other : Option (List Part)) → Adds (otherwise other)
 otherwise-adds None scope = adds-none scope

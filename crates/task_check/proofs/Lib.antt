@@ -17,7 +17,6 @@ pub mod Refusals
 pub mod ScopeNames
 pub mod SizeParts
 pub mod SizesHold
-pub mod Statements
 pub mod TopParts
 pub mod TransitionParts
 pub mod Turns

@@ -13,7 +13,7 @@ use Rattle.task_check.specs.Assignments.{assigns_step, assigns_to, block_assigns
 use Rattle.task_check.specs.Least.{lesser, least}
 use Rattle.task_check.proofs.Folds.{fold-if_else}
 use Rattle.task_check.proofs.LeastParts.{least-append, lesser_swap}
-use Rattle.task_check.proofs.Statements.{Layers, AllOfOther, each_statement_of}
+use Rattle.task_syntax.proofs.Trees.{StatementCases, AllOtherwise, every_statement_of}
 use Rattle.task_check.proofs.Turns.{JoinsUp}
 
 pub of_assigned : JoinsUp (λ (block : List Stmt). assigned_in_block block []) (λ statement. assigned_in statement [])
@@ -101,7 +101,7 @@ module _ (text : List ℕ) where
       AddsItsOwn text (S.roll-Stmt x)
   rolled x adds loops all is = rw (S.fold-roll-Stmt Within assigned_step x) (rw (S.fold-roll-Stmt (List ℕ) (assigns_step text) x) (adds loops all is))
 
-  chosen_adds : (condition : Expr) (block : List Stmt) (other : Option (List Stmt)) → AllByRecursion (AddsItsOwn text) block → AllOfOther (AddsItsOwn text) other →
+  chosen_adds : (condition : Expr) (block : List Stmt) (other : Option (List Stmt)) → AllByRecursion (AddsItsOwn text) block → AllOtherwise (AddsItsOwn text) other →
       AddsItsOwn text (S.roll-Stmt (S.Stmt-F.If condition block other))
   chosen_adds condition block None each rest = rolled (S.Stmt-F.If condition block None) (λ loops all is.
       parted (assigned_in_block block all) [] (block_assigns_to text block) (assigned_in_block block loops) [] [] (block_adds block each loops all is) refl)
@@ -109,7 +109,7 @@ module _ (text : List ℕ) where
       parted (assigned_in_block block all) (assigned_in_block other all) (block_assigns_to text block) (assigned_in_block block loops) (block_assigns_to text other) (assigned_in_block other loops)
       (block_adds block each loops all is) (block_adds other rest loops all is))
 
-  layers : Layers (AddsItsOwn text)
+  layers : StatementCases (AddsItsOwn text)
   layers = record {
     declared = λ name e. rolled (S.Stmt-F.Let name e) (λ loops all is. refl);
     assigned = λ place e. rolled (S.Stmt-F.Assign place e) (λ loops all is. least-names text loops all is (plain_name place));
@@ -123,7 +123,7 @@ module _ (text : List ℕ) where
 -- one loop round a block adds the assignments to its name
 pub least-loop : (text : List ℕ) (block : List Stmt) →
     least (assigned_in_block block (text ∷ [])) ≡ lesser (least (block_assigns_to text block)) (least (assigned_in_block block []))
-least-loop text block = block_adds text block (each_statement_of (AddsItsOwn text) (layers text) block) [] (text ∷ []) (λ name. refl)
+least-loop text block = block_adds text block (every_statement_of (AddsItsOwn text) (layers text) block) [] (text ∷ []) (λ name. refl)
 
 pub least-repeat : (name : Name) (count : ℕ) (block : List Stmt) →
     least (assigned_in (Repeat name count block) []) ≡ lesser (least (block_assigns_to name.text block)) (least (assigned_in_block block []))

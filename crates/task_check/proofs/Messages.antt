@@ -1,6 +1,7 @@
 -- Messages of an accepted program have at most four words.
 use Rattle.std.proofs.Common.{◌≡◌, ℕ, ◌≤◌, List, [], ◌∷◌, ◌++◌, map, length, refl, sym, ap, ◌∙◌, arith}
 use Rattle.std.specs.Prelude.{Bool, true, false, IsTrue, ◌&&◌, ◌==◌, nat_le, Option, Some, None, All, flat_map, if◌then◌else◌}
+use Rattle.std.proofs.lemmas.Bool.{and_from}
 use Rattle.std.specs.List.{AllByRecursion}
 use Rattle.std.proofs.lemmas.Bool.Decides.{nat_tests}
 use Rattle.std.proofs.lemmas.Grind.{flat_map-append}
@@ -21,15 +22,12 @@ use Rattle.task_check.specs.Gives.{fifth, misgiven_step, misgiven, misgiven_in, 
 use Rattle.task_check.specs.Least.{unless}
 use Rattle.task_check.specs.Messages.{statement_gives_step, statement_gives, statements_give, HasShortMessages}
 use Rattle.task_check.proofs.NoPlaces.{first-empty, second-empty, held}
-use Rattle.task_check.proofs.Statements.{Layers, AllOfOther, each_statement_of}
-
-both-tests : (one other : Bool) → one ≡ true → other ≡ true → (one && other) ≡ true
-both-tests one other first second = rw (first, second) refl
+use Rattle.task_syntax.proofs.Trees.{StatementCases, AllOtherwise, every_statement_of}
 
 -- this is said of statements whose messages have four words at most, with those in their blocks
 record SaysFew (Few : Stmt → Type 0) : Type 0 where
   chosen : (condition : Expr) (block : List Stmt) (other : Option (List Stmt)) → Few (S.roll-Stmt (S.Stmt-F.If condition block other)) →
-      AllByRecursion Few block × AllOfOther Few other
+      AllByRecursion Few block × AllOtherwise Few other
   repeated : (name : Name) (count : ℕ) (block : List Stmt) → Few (S.roll-Stmt (S.Stmt-F.Repeat name count block)) → AllByRecursion Few block
   give : (es : List Expr) (at : ℕ) → Few (S.roll-Stmt (S.Stmt-F.Give es at)) → length es ≤ 4
 
@@ -45,17 +43,17 @@ module _ (Few : Stmt → Type 0) (few : SaysFew Few) where
 
   block-gives : (block : List Stmt) → AllByRecursion Gives block → AllByRecursion Few block → statements_give block ≡ true
   block-gives [] each says = refl
-  block-gives (first ∷ more) each says = both-tests (statement_gives first) (statements_give more) (each.0 says.0) (block-gives more each.1 says.1)
+  block-gives (first ∷ more) each says = and_from (statement_gives first) (statements_give more) (each.0 says.0) (block-gives more each.1 says.1)
 
-  chosen-gives : (condition : Expr) (block : List Stmt) (other : Option (List Stmt)) → AllByRecursion Gives block → AllOfOther Gives other →
+  chosen-gives : (condition : Expr) (block : List Stmt) (other : Option (List Stmt)) → AllByRecursion Gives block → AllOtherwise Gives other →
       Gives (S.roll-Stmt (S.Stmt-F.If condition block other))
   chosen-gives condition block None each rest = rolled (S.Stmt-F.If condition block None) (λ says.
-      both-tests (statements_give block) true (block-gives block each (few.chosen condition block None says).0) refl)
+      and_from (statements_give block) true (block-gives block each (few.chosen condition block None says).0) refl)
   chosen-gives condition block (Some other) each rest = rolled (S.Stmt-F.If condition block (Some other)) (λ says.
       let both = few.chosen condition block (Some other) says in
-      both-tests (statements_give block) (statements_give other) (block-gives block each both.0) (block-gives other rest both.1))
+      and_from (statements_give block) (statements_give other) (block-gives block each both.0) (block-gives other rest both.1))
 
-  gives : Layers Gives
+  gives : StatementCases Gives
   gives = record {
     declared = λ name e. rolled (S.Stmt-F.Let name e) (λ says. refl);
     assigned = λ place e. rolled (S.Stmt-F.Assign place e) (λ says. refl);
@@ -67,7 +65,7 @@ module _ (Few : Stmt → Type 0) (few : SaysFew Few) where
   }
 
   body-gives : (block : List Stmt) → AllByRecursion Few block → statements_give block ≡ true
-  body-gives block says = block-gives block (each_statement_of Gives gives block) says
+  body-gives block says = block-gives block (every_statement_of Gives gives block) says
 
 -- in a body that is no top half no message may stand
 module _ (kind : Kind) (no_top : is_top kind ≡ false) where
@@ -84,7 +82,7 @@ module _ (kind : Kind) (no_top : is_top kind ≡ false) where
   opened x says = ap (λ (found : Bool → List ℕ). found says.0) (sym (S.fold-roll-Stmt (Bool → List ℕ) (early_step kind) x)) ∙ says.1
 
   silent-chosen : (condition : Expr) (block : List Stmt) (other : Option (List Stmt)) → IsSilent (S.roll-Stmt (S.Stmt-F.If condition block other)) →
-      AllByRecursion IsSilent block × AllOfOther IsSilent other
+      AllByRecursion IsSilent block × AllOtherwise IsSilent other
   silent-chosen condition block None says = (silent-block block says.0 (first-empty (early_in_block kind block says.0) [] (opened (S.Stmt-F.If condition block None) says)), tt)
   silent-chosen condition block (Some other) says =
       let none = opened (S.Stmt-F.If condition block (Some other)) says in (
@@ -118,7 +116,7 @@ module _ (words : ℕ) (few : words ≤ 4) where
   shown x says = sym (S.fold-roll-Stmt (List ℕ) (misgiven_step words) x) ∙ says
 
   shaped-chosen : (condition : Expr) (block : List Stmt) (other : Option (List Stmt)) → IsShaped (S.roll-Stmt (S.Stmt-F.If condition block other)) →
-      AllByRecursion IsShaped block × AllOfOther IsShaped other
+      AllByRecursion IsShaped block × AllOtherwise IsShaped other
   shaped-chosen condition block None says = (shaped-block block (first-empty (misgiven_in words block) [] (shown (S.Stmt-F.If condition block None) says)), tt)
   shaped-chosen condition block (Some other) says =
       let none = shown (S.Stmt-F.If condition block (Some other)) says in (

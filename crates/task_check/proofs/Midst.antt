@@ -15,6 +15,7 @@ use Rattle.task_syntax.specs.Names.{tasks_of_unit, task_from}
 use Rattle.task_syntax.specs.Units.{memberships, first_from}
 use Rattle.task_check.specs.Transitions.{midst_of}
 use Rattle.task_check.specs.UnitWalk.{own_number, count_with}
+use Rattle.task_check.proofs.UnitNumbers.{memberships-cons}
 
 -- what is known where a name stands at this place of a unit, or isn't in it
 abbrev pub met : ℕ → Option ℕ → Option ℕ → Option ℕ
@@ -56,7 +57,7 @@ first_from-behind tx from [] back none = let same : from ≡ 0 + from = omega ar
 first_from-behind tx from (member ∷ more) back none =
     rw none.0 (first_from-behind tx (from + 1) more back none.1 ∙ ap (λ (n : ℕ). first_from tx n back) (let same : length more + (from + 1) ≡ length (member ∷ more) + from = omega arith in same))
 
-slice_get-behind : {A : Type 0} (front back : List A) (place : ℕ) → slice_get (front ++ back) (length front + place) ≡ slice_get back place
+pub slice_get-behind : {A : Type 0} (front back : List A) (place : ℕ) → slice_get (front ++ back) (length front + place) ≡ slice_get back place
 slice_get-behind [] back place = let same : 0 + place ≡ place = omega arith in ap (slice_get back) same
 slice_get-behind (x ∷ front) back place = let next : suc (length front) + place ≡ suc (length front + place) = omega arith in rw next (slice_get-behind front back place)
 
@@ -131,12 +132,6 @@ task_from-within first (task ∷ more) name place found =
       | inl same ↦ let here : Some first ≡ Some place = rw same at found in let is : first ≡ place = cc in omega arith
       | inr other ↦ let there : task_from (first + 1) more name ≡ Some place = rw other at found in let rest = task_from-within (first + 1) more name place there in omega arith
     ]
-
--- the members of a unit come before those of the units behind it
-memberships-cons : (tx : ℕ) (unit : UnitDecl) (more : List UnitDecl) →
-    memberships tx (unit ∷ more) ≡ replicate (length (tasks_of_unit unit)) (own_number unit tx) ++ memberships (count_with unit tx) more
-memberships-cons tx (Lone task) more = refl
-memberships-cons tx (Tx members) more = refl
 
 -- transactions are numbered upwards
 abbrev IsFrom : ℕ → Option ℕ → Type 0

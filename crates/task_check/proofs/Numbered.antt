@@ -1,7 +1,7 @@
 -- Tasks and transactions by number, unit by unit.
-use Rattle.std.proofs.Common.{◌≡◌, ℕ, zero, suc, ◌+◌, ◌<◌, ◌≤◌, List, [], ◌∷◌, ◌++◌, length, get_or, drop, refl, ap, sym, ◌∙◌, arith, replicate, length-append}
-use Rattle.std.specs.Prelude.{None, Some, slice_get, flat_map}
-use Rattle.std.proofs.lemmas.List.{drop_more, drop_all}
+use Rattle.std.proofs.Common.{◌≡◌, ℕ, zero, suc, ◌+◌, ◌<◌, List, [], ◌∷◌, ◌++◌, length, get_or, drop, refl, ap, sym, ◌∙◌, arith, replicate, length-append}
+use Rattle.std.specs.Prelude.{Some, slice_get, flat_map}
+use Rattle.std.proofs.lemmas.List.{drop_more}
 
 module _ {X : Type 0} where
   pub get-append : (xs ys : List X) (i : ℕ) → i < length xs → slice_get (xs ++ ys) i ≡ slice_get xs i
@@ -26,9 +26,6 @@ module _ {U X : Type 0} (of_unit : U → List X) where
   pub get-further : (units : List U) (k : ℕ) (unit : U) (i j : ℕ) → k < length units → unit ≡ get_or units k unit → i ≡ length (of_unit unit) + j
       → slice_get (flat_map of_unit (drop k units)) i ≡ slice_get (flat_map of_unit (drop (k + 1) units)) j
   get-further units k unit i j within is past = ap (λ list. slice_get list i) (unit-from units k unit within is) ∙ get-append_past (of_unit unit) (flat_map of_unit (drop (k + 1) units)) i j past
-
-  pub get-none : (units : List U) (k i : ℕ) → length units ≤ k → slice_get (flat_map of_unit (drop k units)) i ≡ None
-  get-none units k i past = ap (λ list. slice_get (flat_map of_unit list) i) (drop_all k units past)
 
 -- how many are numbered from one unit on
 pub length-from : {U X : Type 0} (of_unit : U → List X) (units : List U) (k : ℕ) (unit : U) → k < length units → unit ≡ get_or units k unit

@@ -1,8 +1,8 @@
 -- Least places of lists that are joined.
-use Rattle.std.proofs.Common.{◌≡◌, ℕ, Bool, List, [], ◌∷◌, ◌++◌, refl, ap, sym, ◌∙◌, ◌≤◌, ◌<◌, ◌+◌, length, get_or, drop, map}
+use Rattle.std.proofs.Common.{◌≡◌, ℕ, Bool, List, [], ◌∷◌, ◌++◌, refl, ap, sym, ◌∙◌, ◌<◌, ◌+◌, length, get_or, drop, map}
 use Rattle.std.specs.Prelude.{Option, flat_map}
 use Rattle.std.specs.List.{concat}
-use Rattle.std.proofs.lemmas.List.{map-append, drop_more, drop_all}
+use Rattle.std.proofs.lemmas.List.{map-append, drop_more}
 use Rattle.std.proofs.lemmas.List.Elements.{filter-append}
 use Rattle.task_check.specs.declared.found.Found.{Found}
 use Rattle.task_check.specs.declared.meaning.Meaning.{Meaning}
@@ -32,9 +32,6 @@ module _ {X : Type 0} (places : X → List ℕ) where
   joined-from xs i x found within is =
       lesser_assoc found (least (places x)) (least (flat_map places (drop (i + 1) xs)))
       ∙ ap (lesser found) (sym (least-append (places x) (flat_map places (drop (i + 1) xs))) ∙ ap (λ list. least (flat_map places list)) (sym (drop_more xs i x within ∙ ap (λ first. first ∷ drop (i + 1) xs) (sym is))))
-
-  pub joined-past : (xs : List X) (i : ℕ) (found : Option ℕ) → length xs ≤ i → lesser found (least (flat_map places (drop i xs))) ≡ found
-  joined-past xs i found past = ap (λ list. lesser found (least (flat_map places list))) (drop_all i xs past) ∙ lesser-none found
 
   pub concat-map : (xs : List X) → concat (map places xs) ≡ flat_map places xs
   concat-map [] = refl

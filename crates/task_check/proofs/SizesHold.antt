@@ -1,7 +1,7 @@
 -- The sizes of accepted programs.
-use Rattle.std.proofs.Common.{◌≡◌, ℕ, ◌+◌, ◌<◌, ◌≤◌, Bool, true, false, List, [], ◌∷◌, ◌++◌, length, refl, ap, sym, ◌∙◌, arith, inl, inr, length-append}
+use Rattle.std.proofs.Common.{◌≡◌, ℕ, ◌+◌, ◌<◌, ◌≤◌, true, List, [], ◌∷◌, ◌++◌, length, ap, sym, ◌∙◌, arith, inl, inr, length-append}
 use Rattle.std.specs.Prelude.{Option, Some, None, All, flat_map, slice_get, nat_le, ◌&&◌}
-use Rattle.std.proofs.lemmas.Bool.{cases_lt}
+use Rattle.std.proofs.lemmas.Bool.{and_parts, cases_lt}
 use Rattle.std.proofs.lemmas.Bool.Decides.{nat_tests}
 use Rattle.std.proofs.lemmas.List.Elements.{All-nil, All-cons, All-head, All-weaker}
 use Rattle.std.proofs.lemmas.Option.{slice_get-get_or}
@@ -45,13 +45,9 @@ given-fit (Some count) (init.One value) fits = absurd cc
 given-fit None (init.Many values) fits = absurd cc
 given-fit (Some count) (init.Many values) fits = grind (arith, nat_tests)
 
-count-some : (length_of : Option ℕ) → length_fits length_of ≡ true → 0 < count_of length_of
+pub count-some : (length_of : Option ℕ) → length_fits length_of ≡ true → 0 < count_of length_of
 count-some None fits = omega arith
 count-some (Some count) fits = grind (arith, nat_tests)
-
-both : (a b : Bool) → (a && b) ≡ true → (a ≡ true) × (b ≡ true)
-both true b is = (refl, is)
-both false b is = absurd cc
 
 -- a variable whose place isn't told fits
 pub record Fits (var : Var) : Type 0 where
@@ -60,7 +56,7 @@ pub record Fits (var : Var) : Type 0 where
 
 var-fits : (var : Var) → bad_var var ≡ [] → Fits var
 var-fits var none =
-    let fits = both (length_fits var.length) (init_fits var.length var.init) (held (length_fits var.length && init_fits var.length var.init) var.name.at none) in
+    let fits = and_parts (length_fits var.length) (init_fits var.length var.init) (held (length_fits var.length && init_fits var.length var.init) var.name.at none) in
     record { given = given-fit var.length var.init fits.1; some = count-some var.length fits.0 }
 
 vars-fit : (vars : List Var) → flat_map bad_var vars ≡ [] → All Fits vars

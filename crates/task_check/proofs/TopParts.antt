@@ -1,33 +1,19 @@
 -- Variables that are named, found part by part.
-use Rattle.std.proofs.Common.{◌≡◌, ◌∙◌, ℕ, ◌+◌, List, [], ◌∷◌, ◌++◌, refl, ap, true, false, append-nil}
-use Rattle.std.specs.Prelude.{None, Some, flat_map, is_some, if◌then◌else◌, ◌||◌}
-use Rattle.std.specs.List.{list_any}
-use Rattle.std.specs.Str.{bytes_eq}
+use Rattle.std.proofs.Common.{◌≡◌, ◌∙◌, ℕ, List, ◌++◌, refl, ap, append-nil}
+use Rattle.std.specs.Prelude.{None, Some, flat_map}
 use Rattle.coati_word.specs.declared.operator.Op.{Op}
 use Rattle.task_syntax.specs.declared.program.Program.{Program}
 use Rattle.task_syntax.specs.declared.program.Event.{Event}
-use Rattle.task_syntax.specs.declared.program.Var.{Var}
 use Rattle.task_syntax.specs.declared.expression.Expr.{Expr}
 use Rattle.task_syntax.specs.declared.expression.Place.{Place}
 use Rattle.task_syntax.specs.declared.expression.Expr.TheVariants.{Two}
 use Rattle.task_syntax.specs.declared.statement.Stmt.{Stmt}
 use Rattle.task_syntax.specs.declared.statement.Stmt.TheVariants.{Assign, If}
-use Rattle.task_syntax.specs.Names.{words_from, count_of}
 use Rattle.task_check.specs.Tops.{read_step, place_step, in_expression, in_expressions, in_place, named_step, named_in, named_in_block}
 use Rattle.task_check.specs.Least.{lesser, least}
 use Rattle.task_check.proofs.Folds.{fold-assign, fold-if, fold-if_else, fold-two}
 use Rattle.task_check.proofs.LeastParts.{least-append}
 use Rattle.task_check.proofs.Turns.{JoinsUp}
-
--- a name is a variable's where one of the variables has it
-pub is_some-words_from : (first : ℕ) (vars : List Var) (name : List ℕ) → is_some (words_from first vars name) ≡ list_any (λ (var : Var). bytes_eq var.name.text name) vars
-is_some-words_from first [] name = refl
-is_some-words_from first (var ∷ vars) name =
-    let rest = is_some-words_from (first + count_of var.length) vars name in
-    elim (bytes_eq var.name.text name) as (λ same. is_some (if same then Some (record { first = first; length = var.length }) else words_from (first + count_of var.length) vars name) ≡ (same || list_any (λ (w : Var). bytes_eq w.name.text name) vars)) [
-      | true ↦ refl
-      | false ↦ rest
-    ]
 
 module _ (program : Program) where
   pub of_block : JoinsUp (named_in_block program) (named_in program)

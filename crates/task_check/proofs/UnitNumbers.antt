@@ -36,7 +36,7 @@ pub word_count-from : (vars : List Var) (k : ℕ) (var : Var) → k < length var
 word_count-from vars k var within is = ap word_count (drop_more vars k var within ∙ ap (λ first. first ∷ drop (k + 1) vars) (sym is))
 
 -- the tasks of a unit are members of what it is
-memberships-cons : (tx : ℕ) (unit : UnitDecl) (more : List UnitDecl) → memberships tx (unit ∷ more) ≡ replicate (length (tasks_of_unit unit)) (own_number unit tx) ++ memberships (count_with unit tx) more
+pub memberships-cons : (tx : ℕ) (unit : UnitDecl) (more : List UnitDecl) → memberships tx (unit ∷ more) ≡ replicate (length (tasks_of_unit unit)) (own_number unit tx) ++ memberships (count_with unit tx) more
 memberships-cons tx (Lone task) more = refl
 memberships-cons tx (Tx members) more = refl
 

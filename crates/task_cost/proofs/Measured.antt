@@ -1,6 +1,6 @@
 -- No body of an accepted program costs more than 50,000, so that costs are told as they are.
-use Rattle.std.proofs.Common.{◌≡◌, ℕ, ◌≤◌, Bool, List, [], ◌∷◌, ◌++◌, map, true, false, refl, subst, arith, ltb-false, Some, ◌∙◌, sym, ap}
-use Rattle.std.specs.Prelude.{max, flat_map, nat_lt, slice_get, if◌then◌else◌}
+use Rattle.std.proofs.Common.{◌≡◌, ℕ, ◌≤◌, List, [], ◌∷◌, ◌++◌, map, false, subst, arith, ltb-false, Some, ◌∙◌, sym, ap}
+use Rattle.std.specs.Prelude.{max, flat_map, nat_lt, slice_get}
 use Rattle.std.specs.Option.{option_map_or}
 use Rattle.std.proofs.lemmas.Option.{get_or_from_slice_get, slice_get_within}
 use Rattle.std.proofs.lemmas.List.Elements.{All-from_recursion}
@@ -16,42 +16,25 @@ use Rattle.task_syntax.specs.declared.body.BodyId.TheVariants as body
 use Rattle.task_check.specs.Accepted.{IsAccepted}
 use Rattle.task_check.specs.Bodies.{BodyRead, bodies, task_body, halves}
 use Rattle.task_check.specs.Measures.{size_of, too_long, too_long_places}
+use Rattle.task_check.proofs.NoPlaces.{first-empty, none-mapped, second-empty, test-fails}
 use Rattle.task_cost.specs.Limits.{task_costs, event_costs, greatest_cost}
 use Rattle.task_cost.specs.Bodies.{task_cost, event_cost, top_cost, bottom_cost, cost_of}
 
 abbrev pub IsShort : Program → BodyRead → Type 0
 IsShort program body = body_cost program body.statements body.kind ≤ 50000
 
--- joined lists are empty where both are
-left_empty : {X : Type 0} (xs ys : List X) → xs ++ ys ≡ [] → xs ≡ []
-left_empty [] ys none = refl
-left_empty (x ∷ xs) ys none = absurd cc
-
-right_empty : {X : Type 0} (xs ys : List X) → xs ++ ys ≡ [] → ys ≡ []
-right_empty [] ys none = none
-right_empty (x ∷ xs) ys none = absurd cc
-
-empty_map : {X Y : Type 0} (f : X → Y) (xs : List X) → map f xs ≡ [] → xs ≡ []
-empty_map f [] none = refl
-empty_map f (x ∷ xs) none = absurd cc
-
--- a test that puts nothing down has not held
-not_above : {X : Type 0} (test : Bool) (x : X) → (if test then x ∷ [] else []) ≡ [] → test ≡ false
-not_above true x none = absurd cc
-not_above false x none = refl
-
 -- what isn't too long is short
 short_body : (program : Program) (body : BodyRead) → too_long program body ≡ [] → IsShort program body
 short_body program body none =
-    let small : nat_lt 50000 (size_of program body) ≡ false = not_above (nat_lt 50000 (size_of program body)) (body.at, size_of program body) none in
+    let small : nat_lt 50000 (size_of program body) ≡ false = test-fails (nat_lt 50000 (size_of program body)) (body.at, size_of program body) none in
     let most : size_of program body ≤ 50000 = ltb-false 50000 (size_of program body) small in
     omega (arith, most)
 
 short_bodies : (program : Program) (among : List BodyRead) → flat_map (too_long program) among ≡ [] → AllByRecursion (IsShort program) among
 short_bodies program [] none = tt
 short_bodies program (body ∷ more) none = (
-  short_body program body (left_empty (too_long program body) (flat_map (too_long program) more) none),
-  short_bodies program more (right_empty (too_long program body) (flat_map (too_long program) more) none),
+  short_body program body (first-empty (too_long program body) (flat_map (too_long program) more) none),
+  short_bodies program more (second-empty (too_long program body) (flat_map (too_long program) more) none),
 )
 
 abbrev pub IsShortTask : Program → TaskDecl → Type 0
@@ -77,7 +60,7 @@ pub record HasShortBodies (program : Program) : Type 0 where
 pub bodies_short : (program : Program) → IsAccepted program → HasShortBodies program
 bodies_short program accepted =
     let none : map (λ (body : ℕ × ℕ). body.0) (too_long_places program) ≡ [] = accepted 16 (omega arith) (omega arith) in
-    let all = short_bodies program (bodies program) (empty_map (λ (body : ℕ × ℕ). body.0) (too_long_places program) none) in
+    let all = short_bodies program (bodies program) (none-mapped (λ (body : ℕ × ℕ). body.0) (too_long_places program) none) in
     let parts = short_tasks program (tasks program) (flat_map halves program.events) all in
     record { tasks_short = parts.0; events_short = short_events program program.events parts.1 }
 

@@ -42,11 +42,6 @@ begins-behind_run passes (byte ∷ text) =
       | inr stop ↦ rw stop stop
     ]
 
--- the run has bytes where the text begins with one
-pub some_run : (passes : ℕ → Bool) (text : List ℕ) → begins passes text ≡ true → 0 < prefix_len passes text
-some_run passes [] begin = cc
-some_run passes (byte ∷ text) begin = rw begin (omega arith)
-
 -- the run behind a letter or `_` is a name
 pub IsName-run : (text : List ℕ) → begins is_name_start text ≡ true → IsName (take (prefix_len is_name_byte text) text)
 IsName-run [] begin = absurd (cc)

@@ -48,14 +48,6 @@ too_many s o n k h full = at_list s.at s.depth s.rest h where
       rw (h, plain.0, full) refl
   at_list at depth (_ ∷ rest) h = absurd (cc)
 
--- where no operator stands first, the expression is over
-pub ops_over : (s : Spot) (n : ℕ) (k : List Part) → Below 0 s.rest → judge s (Part.Ops n ∷ k) ≡ judge s k
-ops_over s n k h = at_list s.at s.depth s.rest h where
-  at_list : (at depth : ℕ) (list : List Lexeme) → Below 0 list
-      → verdict at depth list (Part.Ops n ∷ k) ≡ verdict at depth list k
-  at_list at depth [] h = refl
-  at_list at depth (_ ∷ rest) h = grind arith
-
 -- a unary operator is taken
 pub unary_on : (s : Spot) (o : Op1) (k : List Part) → first_unary s.rest ≡ Some o
     → judge s (Part.Operand ∷ k) ≡ judge (moved s s.depth) (Part.Primary ∷ k)

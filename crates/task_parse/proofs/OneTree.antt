@@ -24,6 +24,7 @@ use Rattle.task_parse.specs.Lexeme.{Lexeme}
 use Rattle.task_parse.specs.Machine.{Part, Move, step}
 use Rattle.task_parse.specs.Operators.{level, operator_of, unary_of}
 use Rattle.task_parse.proofs.Accepts.{expr_begins}
+use Rattle.task_parse.proofs.Steps.{from}
 use Rattle.task_parse.proofs.Follow.{Skips, operator_no_index, rest_no_else, given_no_length, unit_begins, events_begin, buffer_begins}
 
 -- the sign begins no index, and is no operator of at least level n
@@ -102,9 +103,6 @@ grown : {n l : ℕ} {x z : Expr} {us ws : List Lexeme} → Ends n us → Grow n 
 grown q (Grow.stop) = (refl, refl)
 grown q (Grow.go e a b d g) = let s = sign_ends _ e q in absurd (omega arith)
 
-along : {X : Form} {a b c : List Lexeme} → a ≡ b → Reads X b c → Reads X a c
-along {X} {c = c} h d = subst (λ k. Reads X k c) (sym h) d
-
 no_primary : {x : Expr} {s : Symbol} {o : Op1} {a b : List Lexeme} → unary_of s ≡ Some o → Reads (Form.Primary x) (Lexeme.sign s ∷ a) b → ⊥
 no_primary h (G.get p) = elim p [ ]
 no_primary h (G.parens d) = cc
@@ -174,7 +172,7 @@ more : {xs zs : List Expr} {ts us ws : List Lexeme} → Reads (Form.More xs) ts 
 more (G.no_more) (G.no_more) = (refl, refl)
 more (G.one_more x d) (G.one_more y f) =
     let s = whole (expr x) (more_ends d) (more_ends f) y in
-    let b = more d (along s.1 f) in (cc, b.1)
+    let b = more d (from s.1 f) in (cc, b.1)
 
 values : {xs zs : List Expr} {ts us ws : List Lexeme} → Reads (Form.Values xs) ts (Lexeme.sign sign.Semicolon ∷ us) → Reads (Form.Values zs) ts (Lexeme.sign sign.Semicolon ∷ ws) → (xs ≡ zs) × (us ≡ ws)
 values (G.no_values) (G.no_values) = (refl, refl)
@@ -182,7 +180,7 @@ values (G.no_values) (G.values y f) = let b = expr_begins y in let t = b.takes i
 values (G.values x d) (G.no_values) = let b = expr_begins x in let t = b.takes in absurd (cc)
 values (G.values x d) (G.values y f) =
     let s = whole (expr x) (more_ends d) (more_ends f) y in
-    let b = more d (along s.1 f) in (cc, b.1)
+    let b = more d (from s.1 f) in (cc, b.1)
 
 mutual
   statement : {x z : Stmt} {ts us ws : List Lexeme} → Reads (Form.Statement x) ts us → Skips Part.Otherwise us → Skips Part.Otherwise ws → Reads (Form.Statement z) ts ws → (x ≡ z) × (us ≡ ws)
@@ -191,7 +189,7 @@ mutual
   statement (G.assign d x) q r (G.declare f) = elim d [ ]
   statement (G.assign d x) q r (G.assign f y) =
       let s = place d refl refl f in
-      let b = whole (expr x) refl refl (along (cc) y) in (cc, cc)
+      let b = whole (expr x) refl refl (from (cc) y) in (cc, cc)
   statement (G.assign d x) q r (G.choose y f p) = elim d [ ]
   statement (G.assign d x) q r (G.loop f) = elim d [ ]
   statement (G.assign d x) q r (G.next) = elim d [ ]
@@ -200,8 +198,8 @@ mutual
   statement (G.choose x d o) q r (G.assign f y) = elim f [ ]
   statement (G.choose x (G.block d) o) q r (G.choose y (G.block f) p) =
       let s = whole (expr x) refl refl y in
-      let b = rest d (along (cc) f) in
-      let c = other o q r (along b.1 p) in (cc, c.1)
+      let b = rest d (from (cc) f) in
+      let c = other o q r (from b.1 p) in (cc, c.1)
   statement (G.loop d) q r (G.assign f y) = elim f [ ]
   statement (G.loop (G.block d)) q r (G.loop (G.block f)) = let s = rest d f in (cc, s.1)
   statement (G.next) q r (G.assign f y) = elim f [ ]
@@ -223,7 +221,7 @@ mutual
   rest (G.more d e) (G.close) = absurd (no_statement d)
   rest (G.more d e) (G.more f g) =
       let s = statement d (rest_no_else e) (rest_no_else g) f in
-      let b = rest e (along s.1 g) in (cc, b.1)
+      let b = rest e (from s.1 g) in (cc, b.1)
 
 block : {x z : List Stmt} {ts us ws : List Lexeme} → Reads (Form.Block x) ts us → Reads (Form.Block z) ts ws → (x ≡ z) × (us ≡ ws)
 block (G.block d) (G.block f) = rest d f
@@ -248,7 +246,7 @@ given (G.many_given d) (G.many_given f) = let s = numbers d refl refl f in (cc, 
 variable : {x z : Var} {ts us ws : List Lexeme} → Reads (Form.Variable x) ts us → Reads (Form.Variable z) ts ws → (x ≡ z) × (us ≡ ws)
 variable (G.variable d e) (G.variable f g) =
     let s = len d (given_no_length e) (given_no_length g) f in
-    let b = given e (along s.1 g) in (cc, b.1)
+    let b = given e (from s.1 g) in (cc, b.1)
 
 variables : {x z : List Var} {ts us ws : List Lexeme} → Reads (Form.Variables x) ts us → Skips Part.Variables us → Skips Part.Variables ws → Reads (Form.Variables z) ts ws → (x ≡ z) × (us ≡ ws)
 variables (G.no_variables) q r (G.no_variables) = (refl, refl)
@@ -256,7 +254,7 @@ variables (G.no_variables) q r (G.variables (G.variable f g) h) = absurd (cc)
 variables (G.variables (G.variable d e) h) q r (G.no_variables) = absurd (cc)
 variables (G.variables d e) q r (G.variables f g) =
     let s = variable d f in
-    let b = variables e q r (along s.1 g) in (cc, b.1)
+    let b = variables e q r (from s.1 g) in (cc, b.1)
 
 buffer : {x z : Option Number} {ts us ws : List Lexeme} → Reads (Form.Buffer x) ts us → Skips Part.Buffer us → Skips Part.Buffer ws → Reads (Form.Buffer z) ts ws → (x ≡ z) × (us ≡ ws)
 buffer (G.no_buffer) q r (G.no_buffer) = (refl, refl)
@@ -277,8 +275,8 @@ params (G.params d) (G.params f) = let s = names d refl refl f in (cc, cc)
 event : {x z : Event} {ts us ws : List Lexeme} → Reads (Form.OneEvent x) ts us → Reads (Form.OneEvent z) ts ws → (x ≡ z) × (us ≡ ws)
 event (G.event t p b) (G.event t2 p2 b2) =
     let s = block t t2 in
-    let m = params p (along (cc) p2) in
-    let u = block b (along m.1 b2) in (cc, cc)
+    let m = params p (from (cc) p2) in
+    let u = block b (from m.1 b2) in (cc, cc)
 
 events : {x z : List Event} {ts us ws : List Lexeme} → Reads (Form.Events x) ts us → Skips Part.Events us → Skips Part.Events ws → Reads (Form.Events z) ts ws → (x ≡ z) × (us ≡ ws)
 events (G.no_events) q r (G.no_events) = (refl, refl)
@@ -286,7 +284,7 @@ events (G.no_events) q r (G.events (G.event t p b) g) = absurd (cc)
 events (G.events (G.event t p b) e) q r (G.no_events) = absurd (cc)
 events (G.events d e) q r (G.events f g) =
     let s = event d f in
-    let b = events e q r (along s.1 g) in (cc, b.1)
+    let b = events e q r (from s.1 g) in (cc, b.1)
 
 task : {x z : TaskDecl} {ts us ws : List Lexeme} → Reads (Form.Task x) ts us → Reads (Form.Task z) ts ws → (x ≡ z) × (us ≡ ws)
 task (G.task d) (G.task f) = let s = block d f in (cc, s.1)
@@ -297,7 +295,7 @@ tasks (G.no_tasks) q r (G.tasks (G.task f) g) = absurd (cc)
 tasks (G.tasks (G.task d) e) q r (G.no_tasks) = absurd (cc)
 tasks (G.tasks d e) q r (G.tasks f g) =
     let s = task d f in
-    let b = tasks e q r (along s.1 g) in (cc, b.1)
+    let b = tasks e q r (from s.1 g) in (cc, b.1)
 
 unit : {x z : UnitDecl} {ts us ws : List Lexeme} → Reads (Form.OneUnit x) ts us → Reads (Form.OneUnit z) ts ws → (x ≡ z) × (us ≡ ws)
 unit (G.lone d) (G.lone f) = let s = task d f in (cc, s.1)
@@ -305,7 +303,7 @@ unit (G.lone d) (G.transaction f g) = elim d [ ]
 unit (G.transaction d e) (G.lone f) = elim f [ ]
 unit (G.transaction d e) (G.transaction f g) =
     let s = task d f in
-    let b = tasks e refl refl (along s.1 g) in (cc, cc)
+    let b = tasks e refl refl (from s.1 g) in (cc, cc)
 
 units : {x z : List UnitDecl} {ts us ws : List Lexeme} → Reads (Form.Units x) ts us → Skips Part.Units us → Skips Part.Units ws → Reads (Form.Units z) ts ws → (x ≡ z) × (us ≡ ws)
 units (G.no_units) q r (G.no_units) = (refl, refl)
@@ -315,7 +313,7 @@ units (G.units (G.lone (G.task d)) e) q r (G.no_units) = absurd (cc)
 units (G.units (G.transaction d h) e) q r (G.no_units) = absurd (cc)
 units (G.units d e) q r (G.units f g) =
     let s = unit d f in
-    let b = units e q r (along s.1 g) in (cc, b.1)
+    let b = units e q r (from s.1 g) in (cc, b.1)
 
 pub program : {p q : Program} {ts : List Lexeme} → Derives ts p → Derives ts q → p ≡ q
 program (G.whole v vs size es u us) (G.whole v2 vs2 size2 es2 u2 us2) =
@@ -324,8 +322,8 @@ program (G.whole v vs size es u us) (G.whole v2 vs2 size2 es2 u2 us2) =
     let c = events_begin es b.0 b.1 in
     let c2 = events_begin es2 b2.0 b2.1 in
     let s = variable v v2 in
-    let t = variables vs (buffer_begins size c.0) (buffer_begins size2 c2.0) (along s.1 vs2) in
-    let w = buffer size c.1 c2.1 (along t.1 size2) in
-    let x = events es b.2 b2.2 (along w.1 es2) in
-    let y = unit u (along x.1 u2) in
-    let z = units us refl refl (along y.1 us2) in cc
+    let t = variables vs (buffer_begins size c.0) (buffer_begins size2 c2.0) (from s.1 vs2) in
+    let w = buffer size c.1 c2.1 (from t.1 size2) in
+    let x = events es b.2 b2.2 (from w.1 es2) in
+    let y = unit u (from x.1 u2) in
+    let z = units us refl refl (from y.1 us2) in cc

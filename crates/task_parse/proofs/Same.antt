@@ -43,11 +43,3 @@ pub word_is : (a b : Keyword) → same_word a b ≡ true → a ≡ b
 word_is a b h =
     let e : keyword_text a ≡ keyword_text b = grind (arith, bytes_eq-Decides (keyword_text a) (keyword_text b), h) in
     let f : Some a ≡ Some b = sym (word_found a) ∙ ap word_of e ∙ word_found b in cc
-
-pub sign_same : (a : Symbol) → same_sign a a ≡ true
-sign_same sign.OpenBrace = refl
-sign_same _ = refl
-
-pub word_same : (w : Keyword) → same_word w w ≡ true
-word_same keyword.Nv = refl
-word_same _ = refl

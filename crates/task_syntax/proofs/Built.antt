@@ -2,6 +2,7 @@
 use Rattle.std.proofs.Common.{ℕ, List, []}
 use Rattle.std.specs.Prelude.{Option, Some, None, slice_index}
 use Rattle.coati_word.specs.declared.operator.Op.{Op}
+use Rattle.coati_word.specs.declared.operator.Op1.{Op1}
 use Rattle.task_syntax.specs.declared.name.Name.{Name}
 use Rattle.task_syntax.specs.declared.program.Var.{Var}
 use Rattle.task_syntax.specs.declared.program.Init.TheVariants as init
@@ -31,6 +32,9 @@ item name index = P.roll-Place (P.Place-F.Item (named name) index)
 
 abbrev pub get : Place → Expr
 get place = E.roll-Expr (E.Expr-F.Get place)
+
+abbrev pub one : Op1 → Expr → Expr
+one op operand = E.roll-Expr (E.Expr-F.One op operand)
 
 abbrev pub two : Op → Expr → Expr → Expr
 two op left right = E.roll-Expr (E.Expr-F.Two op left right)

@@ -16,10 +16,10 @@ put-itself word value store = rw (eq-itself word) refl
 pub put-other : (word value other : ℕ) (store : Store) → (word ≡ other → ⊥) → put word value store other ≡ store other
 put-other word value other store apart = rw (eq-other other word (λ e. apart (sym e))) refl
 
-Contains-head : (first : ℕ) (more : List ℕ) → Contains (first ∷ more) first
+pub Contains-head : (first : ℕ) (more : List ℕ) → Contains (first ∷ more) first
 Contains-head first more = (0, omega arith, refl)
 
-Contains-tail : (first word : ℕ) (more : List ℕ) → Contains more word → Contains (first ∷ more) word
+pub Contains-tail : (first word : ℕ) (more : List ℕ) → Contains more word → Contains (first ∷ more) word
 Contains-tail first word more (k, below, is) = (suc k, omega arith, is)
 
 pub after-unwritten : (xs : List Access) (store : Store) (word : ℕ) → (Contains (written_words xs) word → ⊥) → after xs store word ≡ store word

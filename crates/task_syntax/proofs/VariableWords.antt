@@ -28,7 +28,7 @@ pub record StandsBelow (words : Words) (bound : ℕ) : Type 0 where
   pub some : 0 < count_of words.length
   pub within : words.first + count_of words.length ≤ bound
 
-stands-below : (first : ℕ) (vars : List Var) (name : List ℕ) (words : Words) → All (λ (var : Var). 0 < count_of var.length) vars →
+pub stands-below : (first : ℕ) (vars : List Var) (name : List ℕ) (words : Words) → All (λ (var : Var). 0 < count_of var.length) vars →
     words_from first vars name ≡ Some words → StandsBelow words (first + word_count vars)
 stands-below first [] name words full found = absurd (let never : None ≡ Some words = found in cc)
 stands-below first (var ∷ vars) name words full found =

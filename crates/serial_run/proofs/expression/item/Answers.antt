@@ -1,7 +1,8 @@
 use Rattle.std.proofs.Common.{◌≡◌, sym, ◌∙◌, arith}
 use Rattle.coati_word.specs.Operator.{remainder}
 use Rattle.task_syntax.specs.Names.{count_of}
-use Rattle.serial_run.proofs.Aiming.{found-fits, remainder-below}
+use Rattle.task_syntax.proofs.VariableWords.{remainder-below}
+use Rattle.serial_run.proofs.Aiming.{found-fits}
 use Rattle.serial_run.proofs.expression.item.Goals as goal
 
 pub overflow_add-result : goal.overflow_add-result

@@ -1,5 +1,5 @@
 use Rattle.std.proofs.Common.{rules}
-use Rattle.task_check.proofs.TopParts.{is_some-words_from}
+use Rattle.task_syntax.proofs.Named.{is_some-words_from}
 use Rattle.task_check.proofs.rules.tops.is_variable.Goals as goal
 
 pub returns : goal.returns

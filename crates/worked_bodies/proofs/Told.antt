@@ -1,18 +1,21 @@
 -- A machine that goes on, and what it tells in the end.
-use Rattle.std.proofs.Common.{◌≡◌, ℕ, ◌+◌, List, ◌++◌, Bool, length, sym, ap, subst, ◌∙◌}
+use Rattle.std.proofs.Common.{◌≡◌, ℕ, ◌+◌, List, ◌++◌, Bool, length, sym, ap, subst, ◌∙◌, append-nil}
 use Rattle.std.specs.Prelude.{slice_index}
 use Rattle.coati_word.specs.declared.ending.Ending.{Ending}
 use Rattle.coati_word.specs.declared.reading.Reading.{Reading}
 use Rattle.task_syntax.specs.declared.body.BodyId.{BodyId}
 use Rattle.task_syntax.specs.Course.{Course, Access, after, readings}
-use Rattle.word_code.specs.Code.{Bodies}
+use Rattle.word_code.specs.Code.{Bodies, body_words}
+use Rattle.word_code.specs.Following.{Computes}
 use Rattle.word_code.specs.Machine.{move_of}
 use Rattle.word_cpu.specs.declared.cpu.Cpu.{Cpu}
 use Rattle.word_cpu.specs.declared.turn.Turn.{Turn}
+use Rattle.word_cpu.specs.declared.turn.Turn.TheVariants.{Ended}
 use Rattle.word_cpu.specs.OnCourse.{done_by, read_by}
-use Rattle.word_cpu.specs.Reached.{Comes, HasDone, HasNotEnded}
+use Rattle.word_cpu.specs.Reached.{Comes, HasDone, HasNotEnded, MachinesKeepToTheCourse}
 use Rattle.word_cpu.specs.Turning.{CanStep, IsStep, state_of}
 use Rattle.worked_bodies.specs.Bodies.{TellsCourse}
+use Rattle.worked_bodies.specs.Ended.{EndsBy}
 
 -- one step more
 pub comes_on : {V : Type 0} (words : V → List ℕ) (begun : V → ℕ → ℕ → ℕ → Type 0)
@@ -28,7 +31,7 @@ comes_on words begun loaded stored code body params view spent read all before a
 )
 
 -- what was done is what the course does
-pub tells_in_the_end : (course : Course Ending) (old new : List ℕ) (done : List Access) (read : List Reading) (ending : Ending) →
+tells_in_the_end : (course : Course Ending) (old new : List ℕ) (done : List Access) (read : List Reading) (ending : Ending) →
     HasDone course old done read ending new → TellsCourse course old new read ending
 tells_in_the_end course old new done read ending has = record {
   store_after = has.words_are ∙ ap (λ (all : List Access). after all (slice_index old)) has.accesses_are;
@@ -36,3 +39,17 @@ tells_in_the_end course old new done read ending has = record {
   readings_told = has.readings_are ∙ ap readings has.accesses_are;
   ending_told = has.ending_is;
 }
+
+-- where a step ended the body, it read nothing
+pub nothing_read : (read all : List Reading) (turn : Turn) (ending : Ending) → turn ≡ Ended ending → all ≡ read ++ read_by turn → all ≡ read
+nothing_read read all turn ending ended is = is ∙ ap (λ (t : Turn). read ++ read_by t) ended ∙ append-nil read
+
+-- a body that came to its end tells what the course does that it computes
+pub tells_at_its_end : {V : Type 0} (words : V → List ℕ) (begun : V → ℕ → ℕ → ℕ → Type 0)
+    (loaded : V → ℕ → V → Type 0) (stored : V → ℕ → ℕ → ℕ → V → Bool → Type 0)
+    (code : Bodies) (cost : ℕ) (course : Course Ending) (body : BodyId) (params : List ℕ) (view : V) (steps : ℕ) (read : List Reading) (ending : Ending) (new : V) →
+    MachinesKeepToTheCourse words begun loaded stored → Computes (body_words code body) (length (words view)) cost params course →
+    EndsBy words begun loaded stored code body params view steps read ending new → TellsCourse course (words view) (words new) read ending
+tells_at_its_end words begun loaded stored code cost course body params view steps read ending new law computes end =
+    tells_in_the_end course (words view) (words new) end.done read ending
+    ((law code cost course body params view computes end.spent end.done read end.before end.now end.comes).ends end.last new ending end.ends)

@@ -3,6 +3,7 @@ ghost use Rattle.task_syntax.specs.Names.{opening_values, word_count};
 ghost use Rattle.task_cost.specs.Bodies.{cost_of};
 ghost use Rattle.codegen.specs.Bodies.{program_code};
 ghost use Rattle.worked_bodies.specs.Bodies.{HasBodyFor, TellsBody};
+ghost use Rattle.worked_bodies.specs.Ended.{EndsBy};
 
 use crate::machine::run_within;
 use crate::{NotedWords, PlainWords, Ran};
@@ -72,8 +73,8 @@ impl Compiled {
         Ok(words)
     }
 
-    /// Runs a body on the machine, over any view of the program's words. It tells what the evaluator tells, within the body's
-    /// cost; it is refused only where memory is.
+    /// Runs a body on the machine, over any view of the program's words. It tells what the evaluator tells, and by how many
+    /// machine steps, which is within the body's cost; it is refused only where memory is.
     pub fn run<V: View>(
         &self,
         alloc: Global,
@@ -85,6 +86,7 @@ impl Compiled {
         requires body { HasBodyFor self.now.checked body params.now }
         requires few { length params.now ≤ 4 }
         ensures told { IfOk result (λ ran. TellsBody self.now.checked body params.now (V.words view.old) (V.words view.new) ran.readings.items ran.ending) }
+        ensures ends { IfOk result (λ ran. EndsBy V.words V.begun V.loaded V.stored (program_code self.now.checked) body params.now view.old ran.steps ran.readings.items ran.ending view.new) }
         ensures in_time { IfOk result (λ ran. ran.steps ≤ cost_of self.now.checked body) }
         ensures words { OnOk result (length (V.words view.new) ≡ length (V.words view.old)) }
     {

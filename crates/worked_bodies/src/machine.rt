@@ -7,6 +7,7 @@ ghost use Rattle.word_cpu.specs.declared.turn.Turn.TheVariants.{Ended};
 ghost use Rattle.word_cpu.specs.OnCourse.{read_by};
 ghost use Rattle.word_cpu.specs.Reached.{HasNotEnded};
 ghost use Rattle.worked_bodies.specs.Bodies.{TellsWhatIsComputed};
+ghost use Rattle.worked_bodies.specs.Ended.{EndsBy};
 
 use coati_word::{Ending, OutOfMemory, Reading};
 use std::alloc::Global;
@@ -37,6 +38,7 @@ pub(crate) fn run_within<V: View>(
     requires words { length (V.words view.old) ≤ 256 }
     requires computes { (course : Course Ending) × Computes (body_words code.now body) (length (V.words view.old)) cost params.now course }
     ensures told { IfOk result (λ ran. TellsWhatIsComputed (body_words code.now body) cost params.now (V.words view.old) (V.words view.new) ran.readings.items ran.ending) }
+    ensures ends { IfOk result (λ ran. EndsBy V.words V.begun V.loaded V.stored code.now body params.now view.old ran.steps ran.readings.items ran.ending view.new) }
     ensures in_time { IfOk result (λ ran. ran.steps ≤ cost) }
     ensures words { OnOk result (length (V.words view.new) ≡ length (V.words view.old)) }
 {

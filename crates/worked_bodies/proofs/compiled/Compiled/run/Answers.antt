@@ -1,7 +1,9 @@
 use Rattle.std.proofs.Common.{◌≤◌, ℕ, length, sym, subst}
+use Rattle.std.specs.Prelude.{IfOk}
 use Rattle.std.proofs.lemmas.Result.{IfOk-weaker}
 use Rattle.word_code.specs.Code.{Bodies, HasBody}
 use Rattle.codegen.specs.CodeLaws.{course_on}
+use Rattle.worked_bodies.specs.Ended.{EndsBy}
 use Rattle.worked_bodies.proofs.Bodies.{computes_there, same_params}
 use Rattle.worked_bodies.proofs.compiled.Compiled.run.Goals as goal
 
@@ -34,3 +36,8 @@ returns-clause-told g c =
     c.args.self.now.is_code c.body_cost-cost.ensures.cost c.requires.words is
     (same_params c.args.self.now.checked c.args.body c.args.params.now body c.requires.body is)))
     c.run_within.ensures.told
+
+pub returns-clause-ends : goal.returns-clause-ends
+returns-clause-ends g c =
+    subst (λ (code : Bodies). IfOk c.run_within.result (λ ran. EndsBy g.V.View.words g.V.View.begun g.V.View.loaded g.V.View.stored code c.args.body c.args.params.now c.args.view.now ran.steps ran.readings.items ran.ending c.run_within.new.view))
+    c.args.self.now.is_code c.run_within.ensures.ends

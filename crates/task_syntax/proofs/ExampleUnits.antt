@@ -1,10 +1,13 @@
 -- Small transactions, and what they do as units.
-use Rattle.std.proofs.Common.{◌≡◌, ℕ, List, [], ◌∷◌, refl, true, false}
+use Rattle.std.proofs.Common.{◌≡◌, ℕ, ◌+◌, List, [], ◌∷◌, refl, true, false}
 use Rattle.std.specs.Prelude.{Some, None, codes}
+use Rattle.coati_word.specs.declared.ending.Ending.TheVariants.{Next, Halt}
 use Rattle.coati_word.specs.declared.operator.Op.TheVariants as op
 use Rattle.task_syntax.specs.declared.program.Program.{Program}
-use Rattle.task_syntax.specs.Course.{Access, Store}
-use Rattle.task_syntax.specs.Units.{Reached, IsWhole, tasks_effect, whole_effect, transaction_of, first_task, halt, is_shared}
+use Rattle.task_syntax.specs.Course.{Course, Access, Store}
+use Rattle.task_syntax.specs.Units.{Reached, IsWhole, tasks_effect, whole_effect, transaction_of, first_task, halt}
+use Rattle.task_syntax.specs.UnderWay.{HasReached}
+use Rattle.task_syntax.specs.Written.{last_written, is_written, is_shared}
 use Rattle.task_syntax.proofs.Built as build
 use Rattle.task_syntax.proofs.Built.{plain, number, get, two, assign, holding}
 use Rattle.task_syntax.proofs.Examples.{counter}
@@ -25,14 +28,14 @@ grows = build.program (build.scalar a 1 ∷ []) (build.transaction (codes "t") (
 abbrev one : Store
 one = holding (1 ∷ [])
 
-first_of_two : tasks_effect grows 0 one 1 ≡ Some (record { done = Access.read 0 1 ∷ Access.wrote 0 2 ∷ []; place = 1 })
+first_of_two : tasks_effect grows 0 one 1 ≡ Some (record { done = Access.read 0 1 ∷ Access.wrote 0 2 ∷ []; endings = Next 1 ∷ []; place = 1 })
 first_of_two = simp layers
 
 not_whole_after_one : whole_effect grows 0 one 1 ≡ None
 not_whole_after_one = simp layers
 
 abbrev grown : Reached
-grown = record { done = Access.read 0 1 ∷ Access.wrote 0 2 ∷ Access.read 0 2 ∷ Access.wrote 0 20 ∷ []; place = halt }
+grown = record { done = Access.read 0 1 ∷ Access.wrote 0 2 ∷ Access.read 0 2 ∷ Access.wrote 0 20 ∷ []; endings = Next 1 ∷ Halt ∷ []; place = halt }
 
 whole_after_two : whole_effect grows 0 one 2 ≡ Some grown
 whole_after_two = simp layers
@@ -52,7 +55,7 @@ copies = build.program (build.scalar a 1 ∷ build.scalar b 0 ∷ []) (build.tra
 abbrev copied : List Access
 copied = Access.read 0 1 ∷ Access.wrote 1 1 ∷ Access.read 1 1 ∷ Access.wrote 1 2 ∷ []
 
-copies_whole : whole_effect copies 0 (holding (1 ∷ 0 ∷ [])) 2 ≡ Some (record { done = copied; place = halt })
+copies_whole : whole_effect copies 0 (holding (1 ∷ 0 ∷ [])) 2 ≡ Some (record { done = copied; endings = Next 1 ∷ Halt ∷ []; place = halt })
 copies_whole = simp layers
 
 -- a is read before it is written; b was written before it was read
@@ -66,8 +69,31 @@ shares_no_copy = refl
 shares_what_it_counts : is_shared grown.done 0 ≡ true
 shares_what_it_counts = refl
 
+-- of two writes the later one tells what is left
+leaves_the_last : last_written grown.done 0 ≡ Some 20
+leaves_the_last = refl
+
+leaves_the_copy : last_written copied 1 ≡ Some 2
+leaves_the_copy = refl
+
+-- a word that is read alone is not written, and has no last value
+leaves_no_source : last_written copied 0 ≡ None
+leaves_no_source = refl
+
+writes_the_copy : is_written copied 1 ≡ true
+writes_the_copy = refl
+
+writes_no_source : is_written copied 0 ≡ false
+writes_no_source = refl
+
+-- after its first write a course that reads word 0 and writes word 1 twice has the second write left
+half_way : HasReached (Course.reads 0 (λ value. Course.writes 1 value (Course.writes 1 (value + 1) (Course.ends Halt)))) (holding (7 ∷ []))
+    (Access.read 0 7 ∷ Access.wrote 1 7 ∷ []) (Course.writes 1 8 (Course.ends Halt))
+half_way =
+    HasReached.reads 0 _ _ _ _ (HasReached.writes 1 7 _ _ _ _ (HasReached.starts _ _))
+
 -- a lone task is whole after one task
-lone_whole : whole_effect counter 0 (holding (2 ∷ [])) 1 ≡ Some (record { done = Access.read 0 2 ∷ Access.wrote 0 3 ∷ Access.read 0 3 ∷ []; place = halt })
+lone_whole : whole_effect counter 0 (holding (2 ∷ [])) 1 ≡ Some (record { done = Access.read 0 2 ∷ Access.wrote 0 3 ∷ Access.read 0 3 ∷ []; endings = Halt ∷ []; place = halt })
 lone_whole = simp layers
 
 -- `next main;` in the lone task main leads on to another unit, and not further in this one

@@ -1,6 +1,7 @@
 -- Small programs, and what their expressions and statements mean.
 use Rattle.std.proofs.Common.{◌≡◌, ℕ, List, [], ◌∷◌}
 use Rattle.std.specs.Prelude.{Some, None, codes}
+use Rattle.coati_word.specs.declared.ending.Ending.TheVariants.{Next, Halt}
 use Rattle.coati_word.specs.declared.operator.Op.TheVariants as op
 use Rattle.task_syntax.specs.declared.program.Program.{Program}
 use Rattle.task_syntax.specs.declared.expression.Expr.{Expr}
@@ -40,13 +41,13 @@ abbrev pub counter : Program
 counter = build.program (build.scalar n 0 ∷ []) (build.lone (codes "main") counts_to_three ∷ [])
 
 -- the three turns of counting to three
-first_turn : task_effect counter 0 (holding (0 ∷ [])) ≡ record { done = Access.read 0 0 ∷ Access.wrote 0 1 ∷ Access.read 0 1 ∷ []; place = 0 }
+first_turn : task_effect counter 0 (holding (0 ∷ [])) ≡ record { done = Access.read 0 0 ∷ Access.wrote 0 1 ∷ Access.read 0 1 ∷ []; endings = Next 0 ∷ []; place = 0 }
 first_turn = simp layers
 
-second_turn : task_effect counter 0 (holding (1 ∷ [])) ≡ record { done = Access.read 0 1 ∷ Access.wrote 0 2 ∷ Access.read 0 2 ∷ []; place = 0 }
+second_turn : task_effect counter 0 (holding (1 ∷ [])) ≡ record { done = Access.read 0 1 ∷ Access.wrote 0 2 ∷ Access.read 0 2 ∷ []; endings = Next 0 ∷ []; place = 0 }
 second_turn = simp layers
 
-last_turn : task_effect counter 0 (holding (2 ∷ [])) ≡ record { done = Access.read 0 2 ∷ Access.wrote 0 3 ∷ Access.read 0 3 ∷ []; place = halt }
+last_turn : task_effect counter 0 (holding (2 ∷ [])) ≡ record { done = Access.read 0 2 ∷ Access.wrote 0 3 ∷ Access.read 0 3 ∷ []; endings = Halt ∷ []; place = halt }
 last_turn = simp layers
 
 -- no operator is without a value

@@ -3,36 +3,52 @@ use Rattle.std.proofs.Common.{◌≡◌, ℕ, List, [], ◌∷◌, ◌++◌, ref
 use Rattle.std.specs.Prelude.{All}
 use Rattle.std.proofs.lemmas.Bool.{cases_eq}
 use Rattle.std.proofs.lemmas.List.Elements.{All-head, All-tail}
-use Rattle.task_syntax.specs.Course.{Course, Store, put, Access, accesses, after}
-use Rattle.task_syntax.specs.Units.{is_shared}
-use Rattle.task_syntax.specs.CourseLaws.{AgreeOnShared, DoesTheSame}
+use Rattle.task_syntax.specs.Course.{Course, Store, put, Access, accesses, answer, after, readings, written_words}
+use Rattle.task_syntax.specs.CourseLaws.{AgreeOnShared, AreSame, DoesTheSame}
 use Rattle.task_syntax.specs.ProgramLaws.{word_of}
+use Rattle.task_syntax.specs.Written.{last_written, is_shared}
 use Rattle.task_syntax.proofs.Moments.{eq-itself, eq-other, put-other}
 
-agree_behind_read : (word value : ℕ) (more : List Access) (s t : Store) → AgreeOnShared (Access.read word value ∷ more) s t → AgreeOnShared more s t
+pub agrees_on_read : (word value : ℕ) (more : List Access) (s t : Store) → AgreeOnShared (Access.read word value ∷ more) s t → s word ≡ t word
+agrees_on_read word value more s t agree = agree word (rw (eq-itself word) refl)
+
+pub agree_behind_read : (word value : ℕ) (more : List Access) (s t : Store) → AgreeOnShared (Access.read word value ∷ more) s t → AgreeOnShared more s t
 agree_behind_read word value more s t agree other shared =
     elim (cases_eq word other) [
       | inl same ↦ agree other (rw same (rw (eq-itself other) refl))
       | inr apart ↦ agree other (rw (eq-other word other apart) shared)
     ]
 
-agree_behind_write : (word value : ℕ) (more : List Access) (s t : Store) → AgreeOnShared (Access.wrote word value ∷ more) s t → AgreeOnShared more (put word value s) (put word value t)
+pub agree_behind_write : (word value : ℕ) (more : List Access) (s t : Store) → AgreeOnShared (Access.wrote word value ∷ more) s t → AgreeOnShared more (put word value s) (put word value t)
 agree_behind_write word value more s t agree other shared =
     elim (cases_eq word other) [
       | inl same ↦ rw same (rw (eq-itself other) refl)
       | inr apart ↦ rw (put-other word value other s apart, put-other word value other t apart) (agree other (rw (eq-other word other apart) shared))
     ]
 
+-- the same accesses read, write and share the same
+pub are_same : (one other : List Access) → one ≡ other → AreSame one other
+are_same one other same = record {
+  all = same;
+  read = ap readings same;
+  written = ap written_words same;
+  last = λ word. ap (λ (done : List Access). last_written done word) same;
+  shares = λ word. ap (λ (done : List Access). is_shared done word) same;
+}
+
+both_same : {A : Type 0} (course : Course A) (s t : Store) → accesses course t ≡ accesses course s → answer course t ≡ answer course s → DoesTheSame A course s t
+both_same course s t done result = record { done = done; result = result; same = are_same (accesses course t) (accesses course s) done }
+
 -- a course does the same on both
 pub does_the_same : {A : Type 0} (course : Course A) (s t : Store) → AgreeOnShared (accesses course s) s t → DoesTheSame A course s t
-does_the_same (Course.ends result) s t agree = record { done = refl; result = refl }
+does_the_same (Course.ends result) s t agree = both_same (Course.ends result) s t refl refl
 does_the_same (Course.reads word go_on) s t agree =
-    let here : s word ≡ t word = agree word (rw (eq-itself word) refl) in
+    let here : s word ≡ t word = agrees_on_read word (s word) (accesses (go_on (s word)) s) s t agree in
     let rest = does_the_same (go_on (s word)) s t (agree_behind_read word (s word) (accesses (go_on (s word)) s) s t agree) in
-    record { done = rw (← here, rest.done) refl; result = rw (← here) rest.result }
+    both_same (Course.reads word go_on) s t (rw (← here, rest.done) refl) (rw (← here) rest.result)
 does_the_same (Course.writes word value rest) s t agree =
     let behind = does_the_same rest (put word value s) (put word value t) (agree_behind_write word value (accesses rest (put word value s)) s t agree) in
-    record { done = ap (λ more. Access.wrote word value ∷ more) behind.done; result = behind.result }
+    both_same (Course.writes word value rest) s t (ap (λ more. Access.wrote word value ∷ more) behind.done) behind.result
 
 -- what the first accesses share, the whole shares
 pub is_shared-front : (first more : List Access) (word : ℕ) → is_shared first word ≡ true → is_shared (first ++ more) word ≡ true

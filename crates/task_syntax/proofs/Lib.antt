@@ -6,6 +6,7 @@ pub mod ExampleMeasures
 pub mod ExampleUnits
 pub mod Examples
 pub mod Frames
+pub mod Joined
 pub mod Layers
 pub mod MeasureLayers
 pub mod Moments
@@ -13,5 +14,7 @@ pub mod Named
 pub mod Quiet
 pub mod Sums
 pub mod Trees
+pub mod UnderWay
 pub mod UnitFrames
 pub mod VariableWords
+pub mod Written

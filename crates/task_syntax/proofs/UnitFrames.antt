@@ -1,13 +1,14 @@
 -- Tasks of a unit, one after another.
-use Rattle.std.proofs.Common.{◌≡◌, ◌∙◌, ℕ, zero, suc, ◌+◌, ◌<◌, ◌++◌, refl, ap, sym, subst, arith, inl, inr, true, false, Option, Some, None}
+use Rattle.std.proofs.Common.{◌≡◌, ◌∙◌, ℕ, zero, suc, ◌+◌, ◌<◌, ◌≤◌, ◌++◌, refl, ap, sym, subst, arith, inl, inr, true, false, Option, Some, None}
 use Rattle.std.specs.Prelude.{option_and_then, All}
 use Rattle.std.proofs.lemmas.Bool.{cases_eq, cases_Bool, cases_order}
 use Rattle.std.proofs.lemmas.List.Elements.{All-append}
 use Rattle.task_syntax.specs.declared.program.Program.{Program}
 use Rattle.task_syntax.specs.Course.{Store, Access, after}
 use Rattle.task_syntax.specs.CourseLaws.{AgreeOnShared}
+use Rattle.task_syntax.specs.ProgramLaws.{ReachTheSame, TasksDoTheSame, UnitDoesTheSame}
 use Rattle.task_syntax.specs.Units.{Reached, is_inside, followed_by, one_more, task_and_more, task_course, task_effect, tasks_effect, whole_effect, unless_inside, IsWhole}
-use Rattle.task_syntax.proofs.Frames.{does_the_same, is_shared-front, agree_behind}
+use Rattle.task_syntax.proofs.Frames.{are_same, does_the_same, is_shared-front, agree_behind}
 
 -- what is reached by one task more: those before it have reached a place inside
 pub record Further (program : Program) (task : ℕ) (store : Store) (before reached : Reached) : Type 0 where
@@ -54,6 +55,54 @@ pub tasks_frame : (program : Program) (task : ℕ) (s t : Store) (count : ℕ) (
     tasks_effect program task s count ≡ Some reached → AgreeOnShared reached.done s t → tasks_effect program task t count ≡ Some reached
 tasks_frame program task s t zero reached is agree = absurd (let none : None ≡ Some reached = is in cc)
 tasks_frame program task s t (suc more) reached is agree = more_frame program task s t more reached is agree
+
+-- what is shared by the fewer tasks before is shared by all
+earlier_agree : (program : Program) (task : ℕ) (s t : Store) (more : ℕ) (reached : Reached) (found : Option Reached) → task_and_more program task s more ≡ found →
+    option_and_then (one_more program task s) found ≡ Some reached → AgreeOnShared reached.done s t →
+    ((before : Reached) → task_and_more program task s more ≡ Some before → AgreeOnShared before.done s t →
+    (fewer : ℕ) → fewer ≤ more → task_and_more program task t fewer ≡ task_and_more program task s fewer) →
+    (fewer : ℕ) → fewer ≤ more → task_and_more program task t fewer ≡ task_and_more program task s fewer
+earlier_agree program task s t more reached None was is agree earlier fewer few = absurd (let none : None ≡ Some reached = is in cc)
+earlier_agree program task s t more reached (Some before) was is agree earlier fewer few =
+    let step = further_by program task s before reached is in
+    let last = task_effect program before.place (after before.done s) in
+    let agreed : AgreeOnShared (before.done ++ last.done) s t = subst (λ (r : Reached). AgreeOnShared r.done s t) (sym step.is) agree in
+    earlier before was (λ word shared. agreed word (is_shared-front before.done last.done word shared)) fewer few
+
+fewer_frame : (program : Program) (task : ℕ) (s t : Store) (more : ℕ) (reached : Reached) → task_and_more program task s more ≡ Some reached →
+    AgreeOnShared reached.done s t → (fewer : ℕ) → fewer ≤ more → task_and_more program task t fewer ≡ task_and_more program task s fewer
+fewer_frame program task s t zero reached is agree fewer few =
+    let none : fewer ≡ 0 = omega (arith, few) in
+    rw none (more_frame program task s t zero reached is agree ∙ sym is)
+fewer_frame program task s t (suc more) reached is agree fewer few =
+    elim (cases_eq fewer (suc more)) [
+      | inl all ↦ rw all (more_frame program task s t (suc more) reached is agree ∙ sym is)
+      | inr less ↦ earlier_agree program task s t more reached (task_and_more program task s more) refl is agree
+          (λ before was agreed. fewer_frame program task s t more before was agreed) fewer (omega (arith, few, less))
+    ]
+
+earlier_frame : (program : Program) (task : ℕ) (s t : Store) (count : ℕ) (reached : Reached) → tasks_effect program task s count ≡ Some reached →
+    AgreeOnShared reached.done s t → (fewer : ℕ) → fewer ≤ count → tasks_effect program task t fewer ≡ tasks_effect program task s fewer
+earlier_frame program task s t count reached is agree zero few = refl
+earlier_frame program task s t zero reached is agree (suc fewer) few = absurd (let none : None ≡ Some reached = is in cc)
+earlier_frame program task s t (suc more) reached is agree (suc fewer) few = fewer_frame program task s t more reached is agree fewer (omega (arith, few))
+
+reach_the_same : (there reached : Reached) → there ≡ reached → ReachTheSame there reached
+reach_the_same there reached same = record {
+  same = are_same there.done reached.done (ap (λ (r : Reached). r.done) same);
+  endings = ap (λ (r : Reached). r.endings) same;
+  place = ap (λ (r : Reached). r.place) same;
+}
+
+pub tasks_do_the_same : (program : Program) (task : ℕ) (s t : Store) (count : ℕ) (reached : Reached) →
+    tasks_effect program task s count ≡ Some reached → AgreeOnShared reached.done s t → TasksDoTheSame program task s t count reached
+tasks_do_the_same program task s t count reached is agree =
+    let tasks = tasks_frame program task s t count reached is agree in
+    record {
+      tasks = tasks;
+      told = λ there found. let some : Some there ≡ Some reached = sym found ∙ tasks in reach_the_same there reached cc;
+      earlier = earlier_frame program task s t count reached is agree;
+    }
 
 -- no task more where the unit has ended
 none_later : (program : Program) (task : ℕ) (store : Store) (more later : ℕ) (before : Reached) →
@@ -110,20 +159,25 @@ pub tasks_all : (P : Access → Type 0) (program : Program) (task : ℕ) (store 
 tasks_all P program task store zero reached each is = absurd (let none : None ≡ Some reached = is in cc)
 tasks_all P program task store (suc more) reached each is = more_all P program task store more reached each is
 
--- a whole unit does the same
-whole_frame_of : (program : Program) (task : ℕ) (s t : Store) (count : ℕ) (reached : Reached) (found : Option Reached) → tasks_effect program task s count ≡ found →
-    option_and_then (unless_inside program task) found ≡ Some reached → AgreeOnShared reached.done s t → option_and_then (unless_inside program task) (tasks_effect program task t count) ≡ Some reached
-whole_frame_of program task s t count reached None was is agree = absurd (let none : None ≡ Some reached = is in cc)
-whole_frame_of program task s t count reached (Some last) was is agree =
+-- a unit that is whole has come as far, and to a place outside
+ended_there : (program : Program) (task : ℕ) (reached last : Reached) → unless_inside program task last ≡ Some reached → last ≡ reached
+ended_there program task reached last is =
     elim (cases_Bool (is_inside program task last.place)) [
       | inl inside ↦ absurd (let none : None ≡ Some reached = rw inside at is in cc)
-      | inr outside ↦
-          let some : Some last ≡ Some reached = rw outside at is in
-          let same : last ≡ reached = cc in
-          let there = tasks_frame program task s t count last was (subst (λ (r : Reached). AgreeOnShared r.done s t) (sym same) agree) in
-          rw there (rw outside some)
+      | inr outside ↦ let some : Some last ≡ Some reached = rw outside at is in cc
     ]
 
-pub whole_frame : (program : Program) (task : ℕ) (s t : Store) (count : ℕ) (reached : Reached) →
-    whole_effect program task s count ≡ Some reached → AgreeOnShared reached.done s t → whole_effect program task t count ≡ Some reached
-whole_frame program task s t count reached is agree = whole_frame_of program task s t count reached (tasks_effect program task s count) refl is agree
+whole_tasks : (program : Program) (task : ℕ) (reached : Reached) (found : Option Reached) → option_and_then (unless_inside program task) found ≡ Some reached → found ≡ Some reached
+whole_tasks program task reached None is = absurd (let none : None ≡ Some reached = is in cc)
+whole_tasks program task reached (Some last) is = ap (λ (r : Reached). Some r) (ended_there program task reached last is)
+
+-- a whole unit does the same
+pub whole_does_the_same : (program : Program) (task : ℕ) (s t : Store) (count : ℕ) (reached : Reached) →
+    whole_effect program task s count ≡ Some reached → AgreeOnShared reached.done s t → UnitDoesTheSame program task s t count reached
+whole_does_the_same program task s t count reached is agree =
+    let found = whole_tasks program task reached (tasks_effect program task s count) is in
+    let same = tasks_do_the_same program task s t count reached found agree in
+    record {
+      whole = ap (option_and_then (unless_inside program task)) (same.tasks ∙ sym found) ∙ is;
+      tasks = same;
+    }

@@ -10,4 +10,6 @@ pub mod Names
 pub mod ProgramLaws
 pub mod Saturated
 pub mod Statements
+pub mod UnderWay
 pub mod Units
+pub mod Written

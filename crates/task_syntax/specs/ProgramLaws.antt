@@ -1,12 +1,12 @@
 -- Laws of programs: what expressions and bodies touch, and how the tasks of a unit follow one another.
-use Rattle.std.specs.Prelude.{ℕ, ◌≡◌, ◌+◌, ◌<◌, List, [], All, false, Some, None, option_and_then}
+use Rattle.std.specs.Prelude.{ℕ, ◌≡◌, ◌+◌, ◌<◌, ◌≤◌, List, [], All, false, Some, None, option_and_then}
 use Rattle.coati_word.specs.declared.ending.Ending.{Ending}
 use Rattle.task_syntax.specs.declared.program.Program.{Program}
 use Rattle.task_syntax.specs.declared.program.Var.{Var}
 use Rattle.task_syntax.specs.declared.expression.Expr.{Expr}
 use Rattle.task_syntax.specs.declared.statement.Stmt.{Stmt}
 use Rattle.task_syntax.specs.Course.{Course, Store, Access, accesses, after, written_words}
-use Rattle.task_syntax.specs.CourseLaws.{AgreeOnShared, DoesTheSame}
+use Rattle.task_syntax.specs.CourseLaws.{AgreeOnShared, AreSame, DoesTheSame}
 use Rattle.task_syntax.specs.Names.{count_of, word_count}
 use Rattle.task_syntax.specs.Expressions.{Locals, expression}
 use Rattle.task_syntax.specs.Statements.{Way, statement, body}
@@ -90,14 +90,31 @@ UnitsRunTaskByTask = (program : Program) (task : ℕ) (store : Store) → RunsTa
 abbrev pub UnitsAreWholeOnce : Type 0
 UnitsAreWholeOnce = (program : Program) (task : ℕ) (store : Store) (m n : ℕ) → IsWhole program task store m → IsWhole program task store n → m ≡ n
 
+-- tasks that reached the one read, wrote and shared what tasks did that reached the other, and each of them ended as there
+pub record ReachTheSame (one other : Reached) : Type 0 where
+  pub same : AreSame one.done other.done
+  pub endings : one.endings ≡ other.endings
+  pub place : one.place ≡ other.place
+
+-- so many tasks of a unit do on `t` what they do on `s`, and so do the fewer tasks before
+pub record TasksDoTheSame (program : Program) (task : ℕ) (s t : Store) (count : ℕ) (reached : Reached) : Type 0 where
+  pub tasks : tasks_effect program task t count ≡ Some reached
+  pub told : (there : Reached) → tasks_effect program task t count ≡ Some there → ReachTheSame there reached
+  pub earlier : (fewer : ℕ) → fewer ≤ count → tasks_effect program task t fewer ≡ tasks_effect program task s fewer
+
 -- what tasks of a unit do hangs only on the words that they read before they write them
 abbrev pub SharedReadsDecideUnits : Type 0
 SharedReadsDecideUnits =
     (program : Program) (task : ℕ) (s t : Store) (count : ℕ) (reached : Reached) →
-    tasks_effect program task s count ≡ Some reached → AgreeOnShared reached.done s t → tasks_effect program task t count ≡ Some reached
+    tasks_effect program task s count ≡ Some reached → AgreeOnShared reached.done s t → TasksDoTheSame program task s t count reached
 
--- the same for a whole unit
+-- a whole unit does on `t` what it does on `s`
+pub record UnitDoesTheSame (program : Program) (task : ℕ) (s t : Store) (count : ℕ) (reached : Reached) : Type 0 where
+  pub whole : whole_effect program task t count ≡ Some reached
+  pub tasks : TasksDoTheSame program task s t count reached
+
+-- what a whole unit does hangs only on these words too
 abbrev pub SharedReadsDecideWholeUnits : Type 0
 SharedReadsDecideWholeUnits =
     (program : Program) (task : ℕ) (s t : Store) (count : ℕ) (reached : Reached) →
-    whole_effect program task s count ≡ Some reached → AgreeOnShared reached.done s t → whole_effect program task t count ≡ Some reached
+    whole_effect program task s count ≡ Some reached → AgreeOnShared reached.done s t → UnitDoesTheSame program task s t count reached

@@ -1,6 +1,6 @@
 -- Units of tasks. A lone task is a unit. A transaction starts with its first task, goes on with the member that each
 -- `next` names, and ends where one halts or names a task outside.
-use Rattle.std.specs.Prelude.{ℕ, zero, suc, ◌+◌, ◌==◌, ◌≡◌, List, [], ◌∷◌, ◌++◌, length, replicate, slice_get, Bool, true, false, Option, Some, None, if◌then◌else◌, option_and_then}
+use Rattle.std.specs.Prelude.{ℕ, zero, suc, ◌+◌, ◌==◌, ◌≡◌, List, [], ◌∷◌, ◌++◌, length, replicate, slice_get, Bool, false, Option, Some, None, if◌then◌else◌, option_and_then}
 use Rattle.std.specs.Option.{option_map_or}
 use Rattle.coati_word.specs.declared.ending.Ending.{Ending}
 use Rattle.coati_word.specs.declared.ending.Ending.TheVariants.{Next, Halt, Done, Given}
@@ -53,14 +53,17 @@ statements_of (Some task) = task.body
 abbrev pub task_course : Program → ℕ → Course Ending
 task_course program task = body program (statements_of (slice_get (tasks program) task)) no_locals
 
--- what tasks of a unit did, one after another, and the place where the last of them leads
+-- what tasks of a unit did, one after another, how each of them ended, and the place where the last of them leads
 pub record Reached : Type 0 where
   pub done : List Access
+  pub endings : List Ending
   pub place : ℕ
 
 -- a task's effect on a store
 abbrev pub task_effect : Program → ℕ → Store → Reached
-task_effect program task store = record { done = accesses (task_course program task) store; place = place_after (answer (task_course program task) store) }
+task_effect program task store =
+    let course = task_course program task in
+    record { done = accesses course store; endings = answer course store ∷ []; place = place_after (answer course store) }
 
 -- both are members of one transaction
 abbrev pub is_same : Option ℕ → Option ℕ → Bool
@@ -73,7 +76,8 @@ is_inside program task place = is_same (transaction_of program task) (transactio
 
 -- one task more, which runs on what those before it left
 abbrev pub followed_by : Reached → Reached → Reached
-followed_by before task = record { done = before.done ++ task.done; place = task.place }
+followed_by before task =
+    record { done = before.done ++ task.done; endings = before.endings ++ task.endings; place = task.place }
 
 -- what tasks have reached, where the unit of the first of them has ended there
 abbrev pub unless_inside : Program → ℕ → Reached → Option Reached
@@ -106,9 +110,3 @@ module _ (program : Program) (task : ℕ) (store : Store) where
     pub reached : Reached
     pub tasks : tasks_effect count ≡ Some reached
     pub ended : is_inside program task reached.place ≡ false
-
--- a word that is read among accesses when none of them has written it before
-abbrev pub is_shared : List Access → ℕ → Bool
-is_shared [] word = false
-is_shared (Access.read other value ∷ more) word = if other == word then true else is_shared more word
-is_shared (Access.wrote other value ∷ more) word = if other == word then false else is_shared more word

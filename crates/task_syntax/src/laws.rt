@@ -3,7 +3,7 @@
 ghost use Rattle.std.specs.Prelude.{ℕ};
 ghost use Rattle.coati_word.specs.declared.ending.Ending.{Ending};
 ghost use Rattle.task_syntax.specs.Statements.{Way};
-ghost use Rattle.task_syntax.specs.CourseLaws.{AccessesJoinUp, ChainingIsAssociative, ChainsRunInTurn, ReadingsTellTheStore, SharedReadsDecide, UnwrittenWordsStay};
+ghost use Rattle.task_syntax.specs.CourseLaws.{AccessesJoinUp, ChainingIsAssociative, ChainsRunInTurn, ChainsUnderWayGoOn, CoursesUnderWayGoOn, LastWritesTellTheStore, ReadingsTellTheStore, SharedReadsDecide, UnwrittenWordsStay, WrittenWordsAreTold};
 ghost use Rattle.task_syntax.specs.ProgramLaws.{BodiesTouchVariables, EventsTouchVariables, ExpressionsOnlyRead, ExpressionsTouchVariables, SharedReadsDecideUnits, SharedReadsDecideWholeUnits, StatementsTouchVariables, UnitsAreWholeOnce, UnitsRunTaskByTask, UnitsTouchVariables};
 
 /// A chain of courses runs its parts in turn, each on the store that those before it left.
@@ -23,7 +23,7 @@ pub fn chaining_is_associative()
     ensures body { ChainingIsAssociative Way Way Ending }
 {}
 
-/// Joined accesses leave, read and write what their parts do, one after another.
+/// Joined accesses leave, read, write and share what their parts do, one after another.
 pub fn accesses_join_up()
     ensures { AccessesJoinUp }
 {}
@@ -33,6 +33,16 @@ pub fn unwritten_words_stay()
     ensures { UnwrittenWordsStay }
 {}
 
+/// A word holds the last value that is written to it, whatever the store held before.
+pub fn last_writes_tell_the_store()
+    ensures { LastWritesTellTheStore }
+{}
+
+/// A word is written where it stands among the written words, and there alone it has a last value.
+pub fn written_words_are_told()
+    ensures { WrittenWordsAreTold }
+{}
+
 /// A reading tells what the store holds at its moment.
 pub fn readings_tell_the_store()
     ensures expressions { ReadingsTellTheStore ℕ }
@@ -40,7 +50,26 @@ pub fn readings_tell_the_store()
     ensures bodies { ReadingsTellTheStore Ending }
 {}
 
-/// What a course does hangs only on the words that it reads before it writes them.
+/// Where a course has come, what is left of it goes on as the whole does, also on another store
+/// that holds the same in the words that were read before they were written.
+pub fn courses_under_way_go_on()
+    ensures expressions { CoursesUnderWayGoOn ℕ }
+    ensures statements { CoursesUnderWayGoOn Way }
+    ensures bodies { CoursesUnderWayGoOn Ending }
+{}
+
+/// A chain of courses comes as far as its first part does, and past its end to the second part.
+pub fn chains_under_way_go_on()
+    ensures operands { ChainsUnderWayGoOn ℕ ℕ }
+    ensures expression_first { ChainsUnderWayGoOn ℕ Way }
+    ensures statements { ChainsUnderWayGoOn Way Way }
+    ensures bodies { ChainsUnderWayGoOn Way Ending }
+    ensures expression_in_body { ChainsUnderWayGoOn ℕ Ending }
+{}
+
+/// What a course does, and what tasks of a unit do, hangs only on the words that they read before
+/// they write them: two stores that agree on these give the same readings, written values and
+/// shared reads, and each task the same ending.
 pub fn shared_reads_decide()
     ensures expressions { SharedReadsDecide ℕ }
     ensures statements { SharedReadsDecide Way }

@@ -1,5 +1,5 @@
 use Rattle.task_syntax.proofs.Frames.{does_the_same}
-use Rattle.task_syntax.proofs.UnitFrames.{tasks_frame, whole_frame}
+use Rattle.task_syntax.proofs.UnitFrames.{tasks_do_the_same, whole_does_the_same}
 use Rattle.task_syntax.proofs.laws.shared_reads_decide.Goals as goal
 
 pub returns-clause-expressions : goal.returns-clause-expressions
@@ -12,7 +12,7 @@ pub returns-clause-bodies : goal.returns-clause-bodies
 returns-clause-bodies c = λ course s t agree. does_the_same course s t agree
 
 pub returns-clause-units : goal.returns-clause-units
-returns-clause-units c = tasks_frame
+returns-clause-units c = tasks_do_the_same
 
 pub returns-clause-whole_units : goal.returns-clause-whole_units
-returns-clause-whole_units c = whole_frame
+returns-clause-whole_units c = whole_does_the_same

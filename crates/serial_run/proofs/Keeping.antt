@@ -5,9 +5,8 @@ use Rattle.std.proofs.lemmas.Bool.{cases_Bool}
 use Rattle.std.proofs.lemmas.Bool.Decides.{nat_tests}
 use Rattle.coati_word.specs.declared.reading.Reading.{Reading}
 use Rattle.task_syntax.specs.Course.{Access, readings}
-use Rattle.task_syntax.specs.Units.{is_shared}
+use Rattle.task_syntax.specs.Written.{is_shared, is_written}
 use Rattle.serial_run.specs.Moments.{Notes, Marks, Moment, marked, noted, no_marks, behind_access, behind_all}
-use Rattle.serial_run.specs.Touched.{is_written}
 
 -- accesses noted, one after another
 abbrev pub all_noted : List Access → Notes → Notes

@@ -7,7 +7,7 @@ use Rattle.task_syntax.specs.declared.program.Program.{Program}
 use Rattle.task_syntax.specs.Course.{Store, after}
 use Rattle.task_syntax.specs.Units.{Reached, followed_by, is_inside, place_after, task_course, task_effect, tasks_effect}
 use Rattle.serial_run.specs.Moments.{Moment, behind, end_of}
-use Rattle.serial_run.specs.Units.{HasReached}
+use Rattle.serial_run.specs.Units.{TasksLead}
 use Rattle.serial_run.proofs.Steps.{behind_all-append, store-behind_all}
 
 module _ (program : Program) (task : ℕ) (store : Store) where
@@ -28,12 +28,12 @@ module _ (program : Program) (task : ℕ) (store : Store) where
       ]
 
 module _ (program : Program) (task : ℕ) (m n : Moment) (place : ℕ) where
-  pub has-begun : n ≡ behind (task_course program task) m → place ≡ place_after (end_of (task_course program task) m) → HasReached program task m 1 n place
+  pub has-begun : n ≡ behind (task_course program task) m → place ≡ place_after (end_of (task_course program task) m) → TasksLead program task m 1 n place
   unfolding behind end_of
   has-begun moment leads = record { reached = task_effect program task m.store; tasks_done = refl; moment = moment; place_is = leads }
 
-  pub goes-further : (count : ℕ) (between : Moment) (at : ℕ) → HasReached program task m count between at → is_inside program task at ≡ true →
-      n ≡ behind (task_course program at) between → place ≡ place_after (end_of (task_course program at) between) → HasReached program task m (count + 1) n place
+  pub goes-further : (count : ℕ) (between : Moment) (at : ℕ) → TasksLead program task m count between at → is_inside program task at ≡ true →
+      n ≡ behind (task_course program at) between → place ≡ place_after (end_of (task_course program at) between) → TasksLead program task m (count + 1) n place
   unfolding behind end_of
   goes-further count between at before inside moment leads =
       let inside_there : is_inside program task before.reached.place ≡ true = rw (← before.place_is) inside in
@@ -44,7 +44,7 @@ module _ (program : Program) (task : ℕ) (m n : Moment) (place : ℕ) where
         place_is = rw (← store-behind_all before.reached.done m, ← before.moment, ← before.place_is) leads;
       }
 
-  pub goes-no-further : (count later : ℕ) → HasReached program task m count n place → is_inside program task place ≡ false → count < later → tasks_effect program task m.store later ≡ None
+  pub goes-no-further : (count later : ℕ) → TasksLead program task m count n place → is_inside program task place ≡ false → count < later → tasks_effect program task m.store later ≡ None
   goes-no-further count later before outside below =
       let outside_there : is_inside program task before.reached.place ≡ false = rw (← before.place_is) outside in
       ended program task m.store count later before.reached before.tasks_done outside_there below

@@ -5,12 +5,12 @@ use Rattle.coati_word.specs.declared.reading.Reading.{Reading}
 use Rattle.coati_word.specs.declared.ending.Ending.{Ending}
 use Rattle.task_syntax.specs.declared.program.Program.{Program}
 use Rattle.task_syntax.specs.Course.{Course, Store, Access, accesses, answer}
-use Rattle.task_syntax.specs.Units.{Reached, is_inside, is_shared, tasks_effect, whole_effect}
+use Rattle.task_syntax.specs.Units.{Reached, is_inside, tasks_effect, whole_effect}
+use Rattle.task_syntax.specs.Written.{is_shared, is_written}
 use Rattle.serial_run.specs.declared.outcome.Outcome.{Outcome}
 use Rattle.serial_run.specs.Moments.{KeepsReadings, KeepsTouches, Marks, Moment, Notes, behind, behind_all, end_of, no_marks, reading_from, touching_from}
 use Rattle.serial_run.specs.Outcomes.{Tells}
-use Rattle.serial_run.specs.Touched.{is_written}
-use Rattle.serial_run.specs.Units.{HasReached}
+use Rattle.serial_run.specs.Units.{TasksLead}
 use Rattle.serial_run.proofs.Keeping.{kept-behind_all, noted-readings, marks-are}
 use Rattle.serial_run.proofs.Steps.{count-behind_all, store-behind_all}
 
@@ -45,8 +45,8 @@ module _ (before words : List ℕ) (done : List Access) (ending : Ending) (outco
       }
 
 -- tasks of a unit that began on these words
-pub reached-from : (program : Program) (task count place : ℕ) (m begun n : Moment) → m ≡ begun → HasReached program task m count n place → HasReached program task begun count n place
-reached-from program task count place m begun n is reached = subst (λ (moment : Moment). HasReached program task moment count n place) is reached
+pub reached-from : (program : Program) (task count place : ℕ) (m begun n : Moment) → m ≡ begun → TasksLead program task m count n place → TasksLead program task begun count n place
+reached-from program task count place m begun n is reached = subst (λ (moment : Moment). TasksLead program task moment count n place) is reached
 
 module _ (before : List ℕ) (done : List Access) (n : Moment) (came : n ≡ behind_all done (touching_from before)) where
   touched-is : n.kept ≡ Notes.touched (is_shared done) (is_written done)

@@ -1,19 +1,14 @@
 -- The words that are told, as a rising list, each once.
-use Rattle.std.specs.Prelude.{ℕ, zero, suc, ◌≡◌, ◌==◌, ◌↔◌, true, Option, Some, None, List, [], ◌∷◌, ◌++◌, Contains, if◌then◌else◌}
+use Rattle.std.specs.Prelude.{ℕ, zero, suc, ◌≡◌, ◌↔◌, true, Option, Some, None, List, [], ◌∷◌, ◌++◌, Contains, if◌then◌else◌}
 use Rattle.std.specs.List.Sorted.{IsStrictlyIncreasing}
-use Rattle.std.specs.List.{list_any}
-use Rattle.task_syntax.specs.Course.{Access, written_words}
-use Rattle.task_syntax.specs.Units.{Reached, is_shared}
+use Rattle.task_syntax.specs.Units.{Reached}
+use Rattle.task_syntax.specs.Written.{is_shared}
 use Rattle.serial_run.specs.Moments.{Marks}
 
 -- the marked words among the first ones
 abbrev pub marked_below : ℕ → Marks → List ℕ
 marked_below zero marks = []
 marked_below (suc count) marks = marked_below count marks ++ (if marks count then count ∷ [] else [])
-
--- a word is written among accesses
-abbrev pub is_written : List Access → Marks
-is_written done word = list_any (λ other. other == word) (written_words done)
 
 -- the list rises and has exactly the marked words
 pub record TellsWords (marks : Marks) (words : List ℕ) : Type 0 where

@@ -2,10 +2,11 @@ ghost use Rattle.std.specs.Prelude.{◌≡◌, ◌≤◌, ◌<◌, IfOk, Some, l
 ghost use Rattle.task_syntax.specs.Course.{accesses};
 ghost use Rattle.task_syntax.specs.Events.{event_course, event_effect};
 ghost use Rattle.task_syntax.specs.Names.{tasks, word_count};
-ghost use Rattle.task_syntax.specs.Units.{is_shared, tasks_effect};
+ghost use Rattle.task_syntax.specs.Units.{tasks_effect};
+ghost use Rattle.task_syntax.specs.Written.{is_shared, is_written};
 ghost use Rattle.serial_run.specs.Moments.{touching_from};
 ghost use Rattle.serial_run.specs.Runs.{moment_of, shared_among, written_among};
-ghost use Rattle.serial_run.specs.Touched.{TellsShared, TellsWords, is_written};
+ghost use Rattle.serial_run.specs.Touched.{TellsShared, TellsWords};
 
 use crate::event_runs::run_halves;
 use crate::kept::Touch;

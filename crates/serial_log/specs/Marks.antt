@@ -1,0 +1,103 @@
+-- What marks tell, each in the order of the marks: the records, the postings, the boots.
+use Rattle.std.specs.Prelude.{ℕ, ◌==◌, List, [], ◌∷◌, ◌++◌, filter, not, Bool}
+use Rattle.std.specs.List.{list_any}
+use Rattle.coati_word.specs.declared.reading.Reading.{Reading}
+use Rattle.serial_log.specs.declared.mark.Mark.{Mark}
+use Rattle.serial_log.specs.declared.mark.MarkKind.{MarkKind}
+use Rattle.serial_log.specs.declared.mark.MarkKind.TheVariants.{Boot, Posted, Done, Commit, Abort, End}
+use Rattle.serial_log.specs.declared.posted.Posted.{Posted as Raised}
+use Rattle.serial_log.specs.declared.posted.Answer.{Answer}
+use Rattle.serial_log.specs.declared.posted.Answer.TheVariants.{Accepted, Full, Lost}
+use Rattle.serial_log.specs.declared.record.Record.{Record}
+use Rattle.serial_log.specs.declared.unit.Unit.{Unit as Committed}
+use Rattle.serial_log.specs.declared.unit.Unit.TheVariants.{Task, Transaction, Event}
+use Rattle.serial_log.specs.declared.held.Held.{Held}
+use Rattle.serial_log.specs.History.{readings_in}
+
+-- a record with its readings
+pub record Entry : Type 0 where
+  pub committed : Record
+  pub reads : List Reading
+
+abbrev pub entries_by : MarkKind → List Reading → List Entry
+entries_by (Boot number) all = []
+entries_by (Posted posted) all = []
+entries_by (Done task) all = []
+entries_by (Commit committed) all = record { committed = committed; reads = readings_in all committed } ∷ []
+entries_by (Abort aborted) all = []
+entries_by (End end) all = []
+
+-- the records with their readings
+abbrev pub entries : List Mark → List Reading → List Entry
+entries [] all = []
+entries (mark ∷ more) all = entries_by mark.kind all ++ entries more all
+
+abbrev pub raised_by : MarkKind → List Raised
+raised_by (Boot number) = []
+raised_by (Posted posted) = posted ∷ []
+raised_by (Done task) = []
+raised_by (Commit committed) = []
+raised_by (Abort aborted) = []
+raised_by (End end) = []
+
+-- the postings that were raised
+abbrev pub raised_postings : List Mark → List Raised
+raised_postings [] = []
+raised_postings (mark ∷ more) = raised_by mark.kind ++ raised_postings more
+
+abbrev pub accepted_as : Raised → Answer → List Held
+accepted_as posted (Accepted number) = record { number = number; event = posted.event; argument = posted.argument } ∷ []
+accepted_as posted Full = []
+accepted_as posted (Lost boot) = []
+
+abbrev pub accepted_by : MarkKind → List Held
+accepted_by (Boot number) = []
+accepted_by (Posted posted) = accepted_as posted posted.answer
+accepted_by (Done task) = []
+accepted_by (Commit committed) = []
+accepted_by (Abort aborted) = []
+accepted_by (End end) = []
+
+-- the postings that were accepted
+abbrev pub accepted_postings : List Mark → List Held
+accepted_postings [] = []
+accepted_postings (mark ∷ more) = accepted_by mark.kind ++ accepted_postings more
+
+abbrev pub posting_of : Committed → ℕ → List ℕ
+posting_of (Task task) posting = []
+posting_of (Transaction tx) posting = []
+posting_of (Event event) posting = posting ∷ []
+
+abbrev pub recorded_by : MarkKind → List ℕ
+recorded_by (Boot number) = []
+recorded_by (Posted posted) = []
+recorded_by (Done task) = []
+recorded_by (Commit committed) = posting_of committed.unit committed.posting
+recorded_by (Abort aborted) = []
+recorded_by (End end) = []
+
+-- the numbers of the postings whose events were committed
+abbrev pub recorded_postings : List Mark → List ℕ
+recorded_postings [] = []
+recorded_postings (mark ∷ more) = recorded_by mark.kind ++ recorded_postings more
+
+-- none of these is the posting's number
+abbrev pub is_unrecorded : List ℕ → Held → Bool
+is_unrecorded recorded held = not (list_any (λ number. number == held.number) recorded)
+
+-- the accepted postings that are in no record
+abbrev pub unrecorded_postings : List Mark → List Held
+unrecorded_postings marks = filter (is_unrecorded (recorded_postings marks)) (accepted_postings marks)
+
+abbrev pub boot_times_by : ℕ → MarkKind → List ℕ
+boot_times_by at (Boot number) = at ∷ []
+boot_times_by at (Posted posted) = []
+boot_times_by at (Done task) = []
+boot_times_by at (Commit committed) = []
+boot_times_by at (Abort aborted) = []
+boot_times_by at (End end) = []
+
+-- the times of the boots
+abbrev pub boot_times : List Mark → List ℕ
+boot_times [] = []
+boot_times (mark ∷ more) = boot_times_by mark.at mark.kind ++ boot_times more

@@ -1,0 +1,122 @@
+-- How soon a run goes on, and how tasks and events take turns.
+use Rattle.std.specs.Prelude.{ℕ, ◌+◌, ◌≡◌, ◌<◌, ◌≤◌, ◌⊎◌, List, [], All, Contains, filter, nat_le, Option, Some, None}
+use Rattle.std.specs.List.{Any}
+use Rattle.coati_word.specs.declared.mode.Mode.{Mode}
+use Rattle.coati_word.specs.declared.mode.Mode.TheVariants.{Split, Buffi}
+use Rattle.task_syntax.specs.declared.program.Program.{Program}
+use Rattle.serial_log.specs.declared.mark.Mark.{Mark}
+use Rattle.serial_log.specs.declared.mark.MarkKind.{MarkKind}
+use Rattle.serial_log.specs.declared.mark.MarkKind.TheVariants.{Boot, Posted, Done, Commit, Abort, End}
+use Rattle.serial_log.specs.declared.unit.Unit.{Unit as Committed}
+use Rattle.serial_log.specs.declared.unit.Unit.TheVariants.{Task, Transaction, Event}
+use Rattle.serial_log.specs.Marks.{boot_times}
+use Rattle.serial_log.specs.Walk.{Each}
+use Rattle.serial_log.specs.Standing.{Standing, opening, after_mark, standing_of, EachMark}
+use Rattle.serial_log.specs.Legal.{IsDoneWith}
+
+-- the unit is one of tasks
+abbrev pub IsOfTasks : Committed → Type 0
+IsOfTasks (Task task) = Unit {0}
+IsOfTasks (Transaction tx) = Unit {0}
+IsOfTasks (Event event) = ⊥
+
+-- a task is done, or a task or transaction is committed
+abbrev pub EndsTask : MarkKind → Type 0
+EndsTask (Boot number) = ⊥
+EndsTask (Posted posted) = ⊥
+EndsTask (Done task) = Unit {0}
+EndsTask (Commit committed) = IsOfTasks committed.unit
+EndsTask (Abort aborted) = ⊥
+EndsTask (End end) = ⊥
+
+-- a machine step, told by the clock after it, is one of a handler that answers with this mark
+abbrev pub IsStepOfHandler : ℕ → ℕ → MarkKind → Type 0
+IsStepOfHandler step at (Boot number) = ⊥
+IsStepOfHandler step at (Posted posted) = (posted.from < step) × (step ≤ at)
+IsStepOfHandler step at (Done task) = ⊥
+IsStepOfHandler step at (Commit committed) = ⊥
+IsStepOfHandler step at (Abort aborted) = ⊥
+IsStepOfHandler step at (End end) = ⊥
+
+-- no boot comes between two times, and no machine step of a handler
+pub record IsLeftAlone (from to : ℕ) (marks : List Mark) : Type 0 where
+  pub no_boot : (at : ℕ) → Contains (boot_times marks) at → from < at → at < to → ⊥
+  pub no_handler : (step : ℕ) → Any (λ mark. IsStepOfHandler step mark.at mark.kind) marks → from < step → step ≤ to → ⊥
+
+-- a mark behind one time and up to another that ends a task
+pub record ComesFurther (from to : ℕ) (mark : Mark) : Type 0 where
+  pub behind : from < mark.at
+  pub up_to : mark.at ≤ to
+  pub ends : EndsTask mark.kind
+
+-- what a history stood for at a time, with the marks of that time
+abbrev pub standing_at : Program → List Mark → ℕ → Standing
+standing_at program marks time = standing_of program (filter (λ mark. nat_le mark.at time) marks)
+
+-- Where a run is left alone for `bound` machine steps, a task ends in them, or nothing is left to do behind them.
+abbrev pub EndsTasksInTime : Program → ℕ → ℕ → List Mark → Type 0
+EndsTasksInTime program bound clock marks =
+    (time : ℕ) → time + bound ≤ clock → IsLeftAlone time (time + bound) marks →
+    Any (ComesFurther time (time + bound)) marks ⊎ IsDoneWith (standing_at program marks (time + bound))
+
+-- the posting whose event has to come first, where a unit was given up for it
+abbrev pub awaited_by : Option ℕ → MarkKind → Option ℕ
+awaited_by awaited (Boot number) = awaited
+awaited_by awaited (Posted posted) = awaited
+awaited_by awaited (Done task) = None
+awaited_by awaited (Commit committed) = None
+awaited_by awaited (Abort aborted) = Some aborted.posting
+awaited_by awaited (End end) = awaited
+
+abbrev pub IsServedFirst : Option ℕ → MarkKind → Type 0
+IsServedFirst None mark = Unit {0}
+IsServedFirst (Some posting) (Boot number) = Unit {0}
+IsServedFirst (Some posting) (Posted posted) = Unit {0}
+IsServedFirst (Some posting) (Done task) = ⊥
+IsServedFirst (Some posting) (Commit committed) = committed.posting ≡ posting
+IsServedFirst (Some posting) (Abort aborted) = ⊥
+IsServedFirst (Some posting) (End end) = Unit {0}
+
+-- Behind an abort, the first to be done, committed or given up is the event of its posting, which is committed.
+abbrev pub ServesAborts : List Mark → Type 0
+ServesAborts marks = Each (λ awaited mark. awaited_by awaited mark.kind) (λ awaited mark. IsServedFirst awaited mark.kind) None marks
+
+-- what a history stands for so far, and how many postings were accepted when the last task or transaction was committed
+pub record Settled : Type 0 where
+  pub standing : Standing
+  pub settled : ℕ
+
+abbrev pub settled_by_unit : Committed → Settled → ℕ
+settled_by_unit (Task task) s = s.standing.accepted
+settled_by_unit (Transaction tx) s = s.standing.accepted
+settled_by_unit (Event event) s = s.settled
+
+abbrev pub settled_by : MarkKind → Settled → ℕ
+settled_by (Boot number) s = s.settled
+settled_by (Posted posted) s = s.settled
+settled_by (Done task) s = s.settled
+settled_by (Commit committed) s = settled_by_unit committed.unit s
+settled_by (Abort aborted) s = s.settled
+settled_by (End end) s = s.settled
+
+abbrev pub settled_after : Program → Settled → Mark → Settled
+settled_after program s mark = record { standing = after_mark program s.standing mark; settled = settled_by mark.kind s }
+
+-- where a task ends, each posting that is left came after the last commit of a task or transaction
+abbrev pub ServesSettled : Settled → Mark → Type 0
+ServesSettled s mark = EndsTask mark.kind → All (λ held. s.settled < held.number) s.standing.rest
+
+-- In `split`, a posting that was accepted before the commit of a task or transaction is served before the next task ends.
+abbrev pub ServesBetweenUnits : Program → List Mark → Type 0
+ServesBetweenUnits program marks = Each (settled_after program) ServesSettled (record { standing = opening program; settled = 0 }) marks
+
+-- In `buffi`, no posting is left where a task ends.
+abbrev pub ServesAtOnce : Program → List Mark → Type 0
+ServesAtOnce program marks = EachMark program (λ s mark. EndsTask mark.kind → s.rest ≡ []) marks
+
+-- a history that progresses, up to a clock
+pub record Progresses (program : Program) (mode : Mode) (bound clock : ℕ) (marks : List Mark) : Type 0 where
+  pub in_time : EndsTasksInTime program bound clock marks
+  pub aborts : ServesAborts marks
+  pub split : mode ≡ Split → ServesBetweenUnits program marks
+  pub buffi : mode ≡ Buffi → ServesAtOnce program marks

@@ -4,3 +4,9 @@ pub mod Kept
 pub mod Unrecorded
 pub mod SerialRuns
 pub mod Agreement
+pub mod ExampleParts
+pub mod ExamplePostings
+pub mod ExampleAborts
+pub mod ExampleFaults
+pub mod ExampleTurns
+pub mod Joining

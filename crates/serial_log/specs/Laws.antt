@@ -7,14 +7,14 @@ use Rattle.serial_log.specs.declared.mark.Mark.{Mark}
 use Rattle.serial_log.specs.declared.unit.Unit.{Unit as Committed}
 use Rattle.serial_log.specs.declared.held.Held.{Held}
 use Rattle.serial_log.specs.History.{Past, IsRecordIn, AreRecordsIn}
-use Rattle.serial_log.specs.Marks.{Entry, entries, accepted_postings, unrecorded_postings}
+use Rattle.serial_log.specs.Marks.{Entry, entries, raised_postings, accepted_postings, unrecorded_postings, boot_times}
 use Rattle.serial_log.specs.SerialRun.{SerialRun, stand_of, AreSerial, opening_stand}
 use Rattle.serial_log.specs.Standing.{standing_of, after_mark, rest_of, EachMark}
 use Rattle.serial_log.specs.Postings.{Terms, KeepsPostings, ArePostingsLegal}
 use Rattle.serial_log.specs.Aborts.{AreAbortsLegal}
 use Rattle.serial_log.specs.Boots.{AreBootsCounted}
 use Rattle.serial_log.specs.Legal.{IsLegalMark, AreMarksLegal, IsLegalHistory}
-use Rattle.serial_log.specs.Progresses.{IsOfTasks}
+use Rattle.serial_log.specs.Progresses.{IsOfTasks, awaited_by, awaited_of, IsServedFirst, ServesAborts, settled_after, settled_of, ServesSettled, ServesBetweenUnits, ServesAll, ServesAtOnce}
 
 -- a history goes on by a mark
 pub record GoesOnBy (terms : Terms) (all : List Reading) (marks : List Mark) (mark : Mark) : Type 0 where
@@ -25,6 +25,29 @@ pub record GoesOnBy (terms : Terms) (all : List Reading) (marks : List Mark) (ma
 -- a legal mark behind legal marks makes legal marks, and they stand for one step more
 abbrev pub HistoriesGoOn : Type 0
 HistoriesGoOn = (terms : Terms) (all : List Reading) (marks : List Mark) (mark : Mark) → GoesOnBy terms all marks mark
+
+-- how a history takes turns with a mark more
+pub record TakesTurnsBy (program : Program) (marks : List Mark) (mark : Mark) : Type 0 where
+  pub awaited : awaited_of (marks ++ mark ∷ []) ≡ awaited_by (awaited_of marks) mark.kind
+  pub aborts : ServesAborts marks → IsServedFirst (awaited_of marks) mark.kind → ServesAborts (marks ++ mark ∷ [])
+  pub settled : settled_of program (marks ++ mark ∷ []) ≡ settled_after program (settled_of program marks) mark
+  pub split : ServesBetweenUnits program marks → ServesSettled (settled_of program marks) mark → ServesBetweenUnits program (marks ++ mark ∷ [])
+  pub buffi : ServesAtOnce program marks → ServesAll (standing_of program marks) mark → ServesAtOnce program (marks ++ mark ∷ [])
+
+-- so with each mark
+abbrev pub TurnsGoOn : Type 0
+TurnsGoOn = (program : Program) (marks : List Mark) (mark : Mark) → TakesTurnsBy program marks mark
+
+-- what joined marks tell
+pub record TellsBoth (first more : List Mark) : Type 0 where
+  pub records : (all : List Reading) → entries (first ++ more) all ≡ entries first all ++ entries more all
+  pub raised : raised_postings (first ++ more) ≡ raised_postings first ++ raised_postings more
+  pub accepted : accepted_postings (first ++ more) ≡ accepted_postings first ++ accepted_postings more
+  pub boots : boot_times (first ++ more) ≡ boot_times first ++ boot_times more
+
+-- so do all marks
+abbrev pub MarksJoinUp : Type 0
+MarksJoinUp = (first more : List Mark) → TellsBoth first more
 
 -- readings that are added leave those of the records before
 abbrev pub RecordsKeepReadings : Type 0

@@ -10,7 +10,7 @@ use Rattle.serial_log.specs.declared.mark.MarkKind.TheVariants.{Boot, Posted, Do
 use Rattle.serial_log.specs.declared.unit.Unit.{Unit as Committed}
 use Rattle.serial_log.specs.declared.unit.Unit.TheVariants.{Task, Transaction, Event}
 use Rattle.serial_log.specs.Marks.{boot_times}
-use Rattle.serial_log.specs.Walk.{Each}
+use Rattle.serial_log.specs.Walk.{walk, Each}
 use Rattle.serial_log.specs.Standing.{Standing, opening, after_mark, standing_of, EachMark}
 use Rattle.serial_log.specs.Legal.{IsDoneWith}
 
@@ -77,6 +77,9 @@ IsServedFirst (Some posting) (Commit committed) = committed.posting ≡ posting
 IsServedFirst (Some posting) (Abort aborted) = ⊥
 IsServedFirst (Some posting) (End end) = Unit {0}
 
+abbrev pub awaited_of : List Mark → Option ℕ
+awaited_of marks = walk (λ awaited mark. awaited_by awaited mark.kind) None marks
+
 -- Behind an abort, the first to be done, committed or given up is the event of its posting, which is committed.
 abbrev pub ServesAborts : List Mark → Type 0
 ServesAborts marks = Each (λ awaited mark. awaited_by awaited mark.kind) (λ awaited mark. IsServedFirst awaited mark.kind) None marks
@@ -99,8 +102,14 @@ settled_by (Commit committed) s = settled_by_unit committed.unit s
 settled_by (Abort aborted) s = s.settled
 settled_by (End end) s = s.settled
 
+abbrev pub none_settled : Program → Settled
+none_settled program = record { standing = opening program; settled = 0 }
+
 abbrev pub settled_after : Program → Settled → Mark → Settled
 settled_after program s mark = record { standing = after_mark program s.standing mark; settled = settled_by mark.kind s }
+
+abbrev pub settled_of : Program → List Mark → Settled
+settled_of program marks = walk (settled_after program) (none_settled program) marks
 
 -- where a task ends, each posting that is left came after the last commit of a task or transaction
 abbrev pub ServesSettled : Settled → Mark → Type 0
@@ -108,11 +117,15 @@ ServesSettled s mark = EndsTask mark.kind → All (λ held. s.settled < held.num
 
 -- In `split`, a posting that was accepted before the commit of a task or transaction is served before the next task ends.
 abbrev pub ServesBetweenUnits : Program → List Mark → Type 0
-ServesBetweenUnits program marks = Each (settled_after program) ServesSettled (record { standing = opening program; settled = 0 }) marks
+ServesBetweenUnits program marks = Each (settled_after program) ServesSettled (none_settled program) marks
+
+-- where a task ends, no posting is left
+abbrev pub ServesAll : Standing → Mark → Type 0
+ServesAll s mark = EndsTask mark.kind → s.rest ≡ []
 
 -- In `buffi`, no posting is left where a task ends.
 abbrev pub ServesAtOnce : Program → List Mark → Type 0
-ServesAtOnce program marks = EachMark program (λ s mark. EndsTask mark.kind → s.rest ≡ []) marks
+ServesAtOnce program marks = EachMark program ServesAll marks
 
 -- a history that progresses, up to a clock
 pub record Progresses (program : Program) (mode : Mode) (bound clock : ℕ) (marks : List Mark) : Type 0 where

@@ -1,12 +1,23 @@
 //! What follows from the definitions: each function's contract is a law, and its body is empty.
 
 ghost use Rattle.serial_log.specs.Laws.{CommitsTellTheStand, HistoriesGoOn, LegalMarksStay};
-ghost use Rattle.serial_log.specs.Laws.{LegalHistoriesKeepEachFact, RecordsKeepReadings};
-ghost use Rattle.serial_log.specs.Laws.{RestIsUnrecorded, SerialRunsAgree};
+ghost use Rattle.serial_log.specs.Laws.{LegalHistoriesKeepEachFact, MarksJoinUp};
+ghost use Rattle.serial_log.specs.Laws.{RecordsKeepReadings, RestIsUnrecorded};
+ghost use Rattle.serial_log.specs.Laws.{SerialRunsAgree, TurnsGoOn};
 
 /// A legal mark behind legal marks makes legal marks, and they stand for what that mark makes of the standing before.
 pub fn histories_go_on()
     ensures { HistoriesGoOn }
+{}
+
+/// So do the facts of how tasks and events take turns.
+pub fn turns_go_on()
+    ensures { TurnsGoOn }
+{}
+
+/// Joined marks tell what their parts tell, one after another.
+pub fn marks_join_up()
+    ensures { MarksJoinUp }
 {}
 
 /// Readings that are added leave those of the records before, and marks stay legal.

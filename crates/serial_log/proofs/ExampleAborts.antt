@@ -1,5 +1,5 @@
 -- Histories in which events come before the unit of tasks under which they were posted.
-use Rattle.std.proofs.Common.{◌≡◌, ℕ, List, [], ◌∷◌, refl, ap, sym, arith}
+use Rattle.std.proofs.Common.{List, [], ◌∷◌, refl, ap, sym, arith}
 use Rattle.coati_word.specs.declared.reading.Reading.{Reading}
 use Rattle.task_syntax.specs.Course.{Access, after, readings}
 use Rattle.task_syntax.specs.Units.{halt}
@@ -87,8 +87,7 @@ aborted_legal = (
             boots = tt;
             end = tt;
           })
-          (rw (sets start) refl)
-          (
+          (rw (sets start) refl) (
             record { serial = tt; postings = record { in_time = omega arith; follows = tt; order = tt }; aborts = tt; boots = tt; end = tt },
             each_step (after_mark copies) (IsLegalMark copies_terms reads_again) done_again at_end (mark 73 (transaction 0 2)) (mark 80 (End Idle) ∷ [])
                 (record {

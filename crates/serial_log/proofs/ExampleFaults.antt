@@ -1,10 +1,10 @@
 -- Marks that are not legal where those before them lead: one at least for each fact.
-use Rattle.std.proofs.Common.{◌≡◌, ◌∙◌, ℕ, List, [], ◌∷◌, refl, ap, sym, subst, arith}
+use Rattle.std.proofs.Common.{◌≡◌, ◌∙◌, ℕ, List, [], ◌∷◌, ap, sym, arith}
 use Rattle.std.specs.Prelude.{Option, Some, None}
 use Rattle.coati_word.specs.declared.reading.Reading.{Reading}
 use Rattle.coati_word.specs.declared.mode.Mode.TheVariants.{Split, Buffi}
 use Rattle.task_syntax.specs.Course.{Access, readings}
-use Rattle.task_syntax.specs.Units.{Reached, halt}
+use Rattle.task_syntax.specs.Units.{Reached}
 use Rattle.serial_log.specs.declared.mark.MarkKind.TheVariants.{Boot, Done, End}
 use Rattle.serial_log.specs.declared.posted.Answer.TheVariants.{Accepted, Full, Lost}
 use Rattle.serial_log.specs.declared.end.End.TheVariants.{Idle}
@@ -14,7 +14,6 @@ use Rattle.serial_log.specs.Postings.{Terms, ArePostingsLegal}
 use Rattle.serial_log.specs.Aborts.{IsClash, IsLeastClash}
 use Rattle.serial_log.specs.Legal.{IsLegalMark}
 use Rattle.serial_log.proofs.ExampleParts.{adds, adds_terms, grown, grows, copies, copies_terms, reading, held, mark, post, transaction, event, abort}
-use Rattle.serial_log.proofs.ExampleAborts.{at_post}
 
 abbrev second_value : List Reading → ℕ
 second_value [] = 0

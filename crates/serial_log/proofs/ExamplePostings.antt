@@ -1,11 +1,10 @@
 -- Histories of a transaction and an event whose posting comes under it: accepted, refused, lost.
-use Rattle.std.proofs.Common.{◌≡◌, ℕ, ◌≤◌, List, [], ◌∷◌, refl, ap, sym, arith}
+use Rattle.std.proofs.Common.{ℕ, ◌≤◌, List, [], ◌∷◌, refl, ap, sym, arith}
 use Rattle.std.specs.Prelude.{None}
 use Rattle.coati_word.specs.declared.reading.Reading.{Reading}
 use Rattle.task_syntax.specs.Course.{after, readings}
 use Rattle.task_syntax.specs.Units.{halt}
 use Rattle.serial_log.specs.declared.mark.Mark.{Mark}
-use Rattle.serial_log.specs.declared.mark.MarkKind.{MarkKind}
 use Rattle.serial_log.specs.declared.mark.MarkKind.TheVariants.{Boot, Done, End}
 use Rattle.serial_log.specs.declared.posted.Answer.TheVariants.{Accepted, Full, Lost}
 use Rattle.serial_log.specs.declared.end.End.TheVariants.{Idle}
@@ -81,30 +80,32 @@ module _ (accepted boots last latest : ℕ) (raised : ℕ → ℕ) (before : lat
   served_legal : Legal at_post served
   served_legal =
       each_step (after_mark adds) (IsLegalMark adds_terms reads) at_post at_transaction (mark 34 (transaction 0 2)) (mark 50 (event 1 2 1) ∷ mark 53 (End Idle) ∷ [])
-          (record {
-            serial = record { place = refl; no_posting = refl; reached = grown; whole = grows; reads = refl };
-            postings = record { in_time = before; follows = tt; order = tt };
-            aborts = tt;
-            boots = tt;
-            end = tt;
-          })
-          (rw grows refl)
-          (each_step (after_mark adds) (IsLegalMark adds_terms reads) at_transaction at_event (mark 50 (event 1 2 1)) (mark 53 (End Idle) ∷ [])
-          (record {
-            serial = record { no_tasks = refl; held = held 1 5; posting = refl; its_event = refl; reads = ap readings (sym sums) };
-            postings = record { in_time = omega arith; follows = tt; order = record { oldest = held 1 5; due = refl; number = refl } };
-            aborts = tt;
-            boots = tt;
-            end = tt;
-          })
-          (rw sums refl)
-          (record {
-            serial = tt;
-            postings = record { in_time = omega arith; follows = tt; order = tt };
-            aborts = tt;
-            boots = tt;
-            end = record { place = refl; rest = refl };
-          }, tt))
+      (record {
+        serial = record { place = refl; no_posting = refl; reached = grown; whole = grows; reads = refl };
+        postings = record { in_time = before; follows = tt; order = tt };
+        aborts = tt;
+        boots = tt;
+        end = tt;
+      })
+      (rw grows refl)
+      (each_step (after_mark adds) (IsLegalMark adds_terms reads) at_transaction at_event (mark 50 (event 1 2 1)) (mark 53 (End Idle) ∷ [])
+      (record {
+        serial = record { no_tasks = refl; held = held 1 5; posting = refl; its_event = refl; reads = ap readings (sym sums) };
+        postings = record { in_time = omega arith; follows = tt; order = record { oldest = held 1 5; due = refl; number = refl } };
+        aborts = tt;
+        boots = tt;
+        end = tt;
+      })
+      (rw sums refl) (
+        record {
+          serial = tt;
+          postings = record { in_time = omega arith; follows = tt; order = tt };
+          aborts = tt;
+          boots = tt;
+          end = record { place = refl; rest = refl };
+        },
+        tt,
+      ))
 
 -- the event runs when the transaction is whole
 abbrev pub served_under : List Mark
@@ -180,14 +181,16 @@ lost_legal = (
             boots = tt;
             end = tt;
           })
-          (rw grows refl)
-          (record {
-            serial = tt;
-            postings = record { in_time = omega arith; follows = tt; order = tt };
-            aborts = tt;
-            boots = tt;
-            end = record { place = refl; rest = refl };
-          }, tt),
+          (rw grows refl) (
+            record {
+              serial = tt;
+              postings = record { in_time = omega arith; follows = tt; order = tt };
+              aborts = tt;
+              boots = tt;
+              end = record { place = refl; rest = refl };
+            },
+            tt,
+          ),
     ),
   ),
 )

@@ -1,16 +1,13 @@
 -- What script and clock show of small histories, and how tasks and events take turns in them.
-use Rattle.std.proofs.Common.{◌≡◌, ℕ, ◌+◌, ◌≤◌, ◌<◌, List, [], ◌∷◌, map, append-nil, arith, inl, inr, refl}
-use Rattle.std.specs.Prelude.{Some, None}
+use Rattle.std.proofs.Common.{ℕ, ◌<◌, List, [], ◌∷◌, map, append-nil, arith, inl, inr, refl}
 use Rattle.std.proofs.lemmas.List.Elements.{All-from_recursion}
-use Rattle.coati_word.specs.declared.mode.Mode.TheVariants.{Split, Buffi}
 use Rattle.serial_log.specs.declared.held.Held.{Held}
 use Rattle.serial_log.specs.declared.script.Posting.{Posting}
-use Rattle.serial_log.specs.declared.mark.MarkKind.TheVariants.{Boot, Done}
+use Rattle.serial_log.specs.declared.mark.MarkKind.TheVariants.{Done}
 use Rattle.serial_log.specs.declared.posted.Answer.TheVariants.{Accepted}
-use Rattle.serial_log.specs.Boots.{AreBootsCounted}
 use Rattle.serial_log.specs.Scripted.{ArePostingsScripted, AreBootsAtPeriods, sent_by, of_device}
-use Rattle.serial_log.specs.Progresses.{ServesAborts, ServesBetweenUnits, ServesAtOnce, EndsTasksInTime, IsLeftAlone}
-use Rattle.serial_log.proofs.ExampleParts.{adds, copies, counts, mark, post, transaction, event, abort}
+use Rattle.serial_log.specs.Progresses.{ServesAborts, ServesBetweenUnits, ServesAtOnce, EndsTasksInTime}
+use Rattle.serial_log.proofs.ExampleParts.{adds, copies, mark, post, abort}
 use Rattle.serial_log.proofs.ExamplePostings.{served_under, lost}
 use Rattle.serial_log.proofs.ExampleAborts.{aborted, two_events}
 

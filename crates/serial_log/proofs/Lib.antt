@@ -9,4 +9,3 @@ pub mod ExamplePostings
 pub mod ExampleAborts
 pub mod ExampleFaults
 pub mod ExampleTurns
-pub mod Joining

@@ -7,7 +7,7 @@ use Rattle.task_syntax.specs.Units.{Reached, first_task, tasks_effect, is_shared
 use Rattle.task_syntax.specs.Events.{event_effect}
 use Rattle.serial_log.specs.declared.mark.Mark.{Mark}
 use Rattle.serial_log.specs.declared.mark.MarkKind.{MarkKind}
-use Rattle.serial_log.specs.declared.mark.MarkKind.TheVariants.{Boot, Posted, Done, Commit, Abort, End}
+use Rattle.serial_log.specs.declared.mark.MarkKind.TheVariants.{Abort}
 use Rattle.serial_log.specs.declared.abort.AbortOf.{AbortOf}
 use Rattle.serial_log.specs.declared.unit.Unit.{Unit as Committed}
 use Rattle.serial_log.specs.declared.unit.Unit.TheVariants.{Task, Transaction, Event}
@@ -49,12 +49,8 @@ pub record IsAbortLegal (terms : Terms) (s : Standing) (aborted : AbortOf) : Typ
   pub word : IsClashWord terms.program s.run aborted.tasks held aborted.word
 
 abbrev pub KeepsAborts : Terms → Standing → MarkKind → Type 0
-KeepsAborts terms s (Boot number) = Unit {0}
-KeepsAborts terms s (Posted posted) = Unit {0}
-KeepsAborts terms s (Done task) = Unit {0}
-KeepsAborts terms s (Commit committed) = Unit {0}
 KeepsAborts terms s (Abort aborted) = IsAbortLegal terms s aborted
-KeepsAborts terms s (End end) = Unit {0}
+KeepsAborts terms s _ = Unit {0}
 
 -- the aborts of a history are legal
 abbrev pub AreAbortsLegal : Terms → List Mark → Type 0

@@ -3,7 +3,7 @@ use Rattle.std.specs.Prelude.{ℕ, ◌+◌, ◌≡◌, ◌<◌, List}
 use Rattle.task_syntax.specs.declared.program.Program.{Program}
 use Rattle.serial_log.specs.declared.mark.Mark.{Mark}
 use Rattle.serial_log.specs.declared.mark.MarkKind.{MarkKind}
-use Rattle.serial_log.specs.declared.mark.MarkKind.TheVariants.{Boot, Posted, Done, Commit, Abort, End}
+use Rattle.serial_log.specs.declared.mark.MarkKind.TheVariants.{Boot}
 use Rattle.serial_log.specs.Standing.{Standing, EachMark}
 
 -- Boots are counted from 1. No power period is empty, so each boot is later than the one before, and the first than 0.
@@ -13,11 +13,7 @@ pub record IsBootLegal (s : Standing) (at number : ℕ) : Type 0 where
 
 abbrev pub KeepsBoots : Standing → ℕ → MarkKind → Type 0
 KeepsBoots s at (Boot number) = IsBootLegal s at number
-KeepsBoots s at (Posted posted) = Unit {0}
-KeepsBoots s at (Done task) = Unit {0}
-KeepsBoots s at (Commit committed) = Unit {0}
-KeepsBoots s at (Abort aborted) = Unit {0}
-KeepsBoots s at (End end) = Unit {0}
+KeepsBoots s at _ = Unit {0}
 
 -- the boots of a history are counted
 abbrev pub AreBootsCounted : Program → List Mark → Type 0

@@ -4,7 +4,7 @@ use Rattle.std.specs.List.{Any}
 use Rattle.coati_word.specs.declared.reading.Reading.{Reading}
 use Rattle.serial_log.specs.declared.mark.Mark.{Mark}
 use Rattle.serial_log.specs.declared.mark.MarkKind.{MarkKind}
-use Rattle.serial_log.specs.declared.mark.MarkKind.TheVariants.{Boot, Posted, Done, Commit, Abort, End}
+use Rattle.serial_log.specs.declared.mark.MarkKind.TheVariants.{Commit}
 use Rattle.serial_log.specs.declared.record.Record.{Record}
 
 -- marks and readings, and room for more
@@ -20,12 +20,8 @@ readings_in all committed = take committed.reads_len (drop committed.reads_from 
 
 -- a record's readings are among the first `count`
 abbrev pub IsRecordIn : ℕ → MarkKind → Type 0
-IsRecordIn count (Boot number) = Unit {0}
-IsRecordIn count (Posted posted) = Unit {0}
-IsRecordIn count (Done task) = Unit {0}
 IsRecordIn count (Commit committed) = committed.reads_from + committed.reads_len ≤ count
-IsRecordIn count (Abort aborted) = Unit {0}
-IsRecordIn count (End end) = Unit {0}
+IsRecordIn count _ = Unit {0}
 
 -- each record's readings are there
 abbrev pub AreRecordsIn : ℕ → List Mark → Type 0

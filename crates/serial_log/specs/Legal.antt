@@ -1,6 +1,6 @@
 -- Which histories are legal. Each fact is one about a mark where those before it lead, so a printed text can be judged line
 -- by line. Not told by marks alone, and so not here: the script, the clock, and how soon a run goes on.
-use Rattle.std.specs.Prelude.{ℕ, ◌≡◌, List, []}
+use Rattle.std.specs.Prelude.{◌≡◌, List, []}
 use Rattle.coati_word.specs.declared.reading.Reading.{Reading}
 use Rattle.task_syntax.specs.declared.program.Program.{Program}
 use Rattle.task_syntax.specs.Units.{halt}
@@ -19,12 +19,8 @@ use Rattle.serial_log.specs.Boots.{KeepsBoots}
 
 -- a commit is the next record of the serial run
 abbrev pub KeepsSerial : Program → List Reading → Standing → MarkKind → Type 0
-KeepsSerial program all s (Boot number) = Unit {0}
-KeepsSerial program all s (Posted posted) = Unit {0}
-KeepsSerial program all s (Done task) = Unit {0}
 KeepsSerial program all s (Commit committed) = IsNext program s.rest s.run (record { committed = committed; reads = readings_in all committed })
-KeepsSerial program all s (Abort aborted) = Unit {0}
-KeepsSerial program all s (kind.End end) = Unit {0}
+KeepsSerial program all s _ = Unit {0}
 
 -- nothing is left to do
 pub record IsDoneWith (s : Standing) : Type 0 where
@@ -36,12 +32,8 @@ IsEndLegal s Idle = IsDoneWith s
 IsEndLegal s Limit = Unit {0}
 
 abbrev pub KeepsEnd : Standing → MarkKind → Type 0
-KeepsEnd s (Boot number) = Unit {0}
-KeepsEnd s (Posted posted) = Unit {0}
-KeepsEnd s (Done task) = Unit {0}
-KeepsEnd s (Commit committed) = Unit {0}
-KeepsEnd s (Abort aborted) = Unit {0}
 KeepsEnd s (kind.End end) = IsEndLegal s end
+KeepsEnd s _ = Unit {0}
 
 -- one mark is legal where those before it lead
 pub record IsLegalMark (terms : Terms) (all : List Reading) (s : Standing) (mark : Mark) : Type 0 where

@@ -1,16 +1,16 @@
 -- What marks tell, each in the order of the marks: the records, the postings, the boots.
-use Rattle.std.specs.Prelude.{ℕ, ◌==◌, List, [], ◌∷◌, ◌++◌, filter, not, Bool}
+use Rattle.std.specs.Prelude.{ℕ, ◌==◌, List, [], ◌∷◌, flat_map, filter, not, Bool}
 use Rattle.std.specs.List.{list_any}
 use Rattle.coati_word.specs.declared.reading.Reading.{Reading}
 use Rattle.serial_log.specs.declared.mark.Mark.{Mark}
 use Rattle.serial_log.specs.declared.mark.MarkKind.{MarkKind}
-use Rattle.serial_log.specs.declared.mark.MarkKind.TheVariants.{Boot, Posted, Done, Commit, Abort, End}
+use Rattle.serial_log.specs.declared.mark.MarkKind.TheVariants.{Boot, Posted, Commit}
 use Rattle.serial_log.specs.declared.posted.Posted.{Posted as Raised}
 use Rattle.serial_log.specs.declared.posted.Answer.{Answer}
-use Rattle.serial_log.specs.declared.posted.Answer.TheVariants.{Accepted, Full, Lost}
+use Rattle.serial_log.specs.declared.posted.Answer.TheVariants.{Accepted}
 use Rattle.serial_log.specs.declared.record.Record.{Record}
 use Rattle.serial_log.specs.declared.unit.Unit.{Unit as Committed}
-use Rattle.serial_log.specs.declared.unit.Unit.TheVariants.{Task, Transaction, Event}
+use Rattle.serial_log.specs.declared.unit.Unit.TheVariants.{Event}
 use Rattle.serial_log.specs.declared.held.Held.{Held}
 use Rattle.serial_log.specs.History.{readings_in}
 
@@ -20,66 +20,44 @@ pub record Entry : Type 0 where
   pub reads : List Reading
 
 abbrev pub entries_by : MarkKind → List Reading → List Entry
-entries_by (Boot number) all = []
-entries_by (Posted posted) all = []
-entries_by (Done task) all = []
 entries_by (Commit committed) all = record { committed = committed; reads = readings_in all committed } ∷ []
-entries_by (Abort aborted) all = []
-entries_by (End end) all = []
+entries_by _ all = []
 
 -- the records with their readings
 abbrev pub entries : List Mark → List Reading → List Entry
-entries [] all = []
-entries (mark ∷ more) all = entries_by mark.kind all ++ entries more all
+entries marks all = flat_map (λ mark. entries_by mark.kind all) marks
 
 abbrev pub raised_by : MarkKind → List Raised
-raised_by (Boot number) = []
 raised_by (Posted posted) = posted ∷ []
-raised_by (Done task) = []
-raised_by (Commit committed) = []
-raised_by (Abort aborted) = []
-raised_by (End end) = []
+raised_by _ = []
 
 -- the postings that were raised
 abbrev pub raised_postings : List Mark → List Raised
-raised_postings [] = []
-raised_postings (mark ∷ more) = raised_by mark.kind ++ raised_postings more
+raised_postings marks = flat_map (λ mark. raised_by mark.kind) marks
 
 abbrev pub accepted_as : Raised → Answer → List Held
 accepted_as posted (Accepted number) = record { number = number; event = posted.event; argument = posted.argument } ∷ []
-accepted_as posted Full = []
-accepted_as posted (Lost boot) = []
+accepted_as posted _ = []
 
 abbrev pub accepted_by : MarkKind → List Held
-accepted_by (Boot number) = []
 accepted_by (Posted posted) = accepted_as posted posted.answer
-accepted_by (Done task) = []
-accepted_by (Commit committed) = []
-accepted_by (Abort aborted) = []
-accepted_by (End end) = []
+accepted_by _ = []
 
 -- the postings that were accepted
 abbrev pub accepted_postings : List Mark → List Held
-accepted_postings [] = []
-accepted_postings (mark ∷ more) = accepted_by mark.kind ++ accepted_postings more
+accepted_postings marks = flat_map (λ mark. accepted_by mark.kind) marks
 
 abbrev pub posting_of : Committed → ℕ → List ℕ
-posting_of (Task task) posting = []
-posting_of (Transaction tx) posting = []
 posting_of (Event event) posting = posting ∷ []
+posting_of _ posting = []
 
 abbrev pub recorded_by : MarkKind → List ℕ
-recorded_by (Boot number) = []
-recorded_by (Posted posted) = []
-recorded_by (Done task) = []
 recorded_by (Commit committed) = posting_of committed.unit committed.posting
-recorded_by (Abort aborted) = []
-recorded_by (End end) = []
+recorded_by _ = []
 
 -- the numbers of the postings whose events were committed
 abbrev pub recorded_postings : List Mark → List ℕ
-recorded_postings [] = []
-recorded_postings (mark ∷ more) = recorded_by mark.kind ++ recorded_postings more
+recorded_postings marks = flat_map (λ mark. recorded_by mark.kind) marks
 
 -- none of these is the posting's number
 abbrev pub is_unrecorded : List ℕ → Held → Bool
@@ -91,13 +69,8 @@ unrecorded_postings marks = filter (is_unrecorded (recorded_postings marks)) (ac
 
 abbrev pub boot_times_by : ℕ → MarkKind → List ℕ
 boot_times_by at (Boot number) = at ∷ []
-boot_times_by at (Posted posted) = []
-boot_times_by at (Done task) = []
-boot_times_by at (Commit committed) = []
-boot_times_by at (Abort aborted) = []
-boot_times_by at (End end) = []
+boot_times_by at _ = []
 
 -- the times of the boots
 abbrev pub boot_times : List Mark → List ℕ
-boot_times [] = []
-boot_times (mark ∷ more) = boot_times_by mark.at mark.kind ++ boot_times more
+boot_times marks = flat_map (λ mark. boot_times_by mark.at mark.kind) marks

@@ -5,12 +5,12 @@ use Rattle.task_check.specs.Numbers.{buffer_size}
 use Rattle.task_syntax.specs.declared.program.Program.{Program}
 use Rattle.serial_log.specs.declared.mark.Mark.{Mark}
 use Rattle.serial_log.specs.declared.mark.MarkKind.{MarkKind}
-use Rattle.serial_log.specs.declared.mark.MarkKind.TheVariants.{Boot, Posted, Done, Commit, Abort, End}
+use Rattle.serial_log.specs.declared.mark.MarkKind.TheVariants.{Boot, Posted, Commit}
 use Rattle.serial_log.specs.declared.posted.Posted.{Posted as Raised}
 use Rattle.serial_log.specs.declared.posted.Answer.{Answer}
 use Rattle.serial_log.specs.declared.posted.Answer.TheVariants.{Accepted, Full, Lost}
 use Rattle.serial_log.specs.declared.unit.Unit.{Unit as Committed}
-use Rattle.serial_log.specs.declared.unit.Unit.TheVariants.{Task, Transaction, Event}
+use Rattle.serial_log.specs.declared.unit.Unit.TheVariants.{Event}
 use Rattle.serial_log.specs.declared.held.Held.{Held}
 use Rattle.serial_log.specs.Standing.{Standing, standing_of, EachMark}
 
@@ -66,18 +66,14 @@ pub record IsDue (rest : List Held) (posting : ℕ) : Type 0 where
 
 -- Events are committed in the order of their postings.
 abbrev pub IsInOrder : List Held → ℕ → Committed → Type 0
-IsInOrder rest posting (Task task) = Unit {0}
-IsInOrder rest posting (Transaction tx) = Unit {0}
 IsInOrder rest posting (Event event) = IsDue rest posting
+IsInOrder rest posting _ = Unit {0}
 
 -- what each kind of mark tells of postings
 abbrev pub KeepsOrder : Terms → Standing → ℕ → MarkKind → Type 0
-KeepsOrder terms s at (Boot number) = Unit {0}
 KeepsOrder terms s at (Posted posted) = IsLegalPost terms s at posted
-KeepsOrder terms s at (Done task) = Unit {0}
 KeepsOrder terms s at (Commit committed) = IsInOrder s.rest committed.posting committed.unit
-KeepsOrder terms s at (Abort aborted) = Unit {0}
-KeepsOrder terms s at (End end) = Unit {0}
+KeepsOrder terms s at _ = Unit {0}
 
 -- the boot of this number, at the time of the mark before
 pub record IsBootOf (s : Standing) (boot : ℕ) (mark : Mark) : Type 0 where

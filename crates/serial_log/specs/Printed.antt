@@ -1,5 +1,5 @@
 -- Which printed texts are serial and legal. A line shows a mark, but neither a Done mark nor the time of a commit or an abort.
-use Rattle.std.specs.Prelude.{ℕ, ◌≡◌, ◌<◌, List, [], ◌∷◌, ◌++◌, length, slice_index}
+use Rattle.std.specs.Prelude.{ℕ, ◌≡◌, ◌<◌, List, [], ◌∷◌, flat_map, length, slice_index}
 use Rattle.coati_word.specs.declared.reading.Reading.{Reading}
 use Rattle.task_syntax.specs.Names.{word_count}
 use Rattle.serial_log.specs.declared.line.Line.{Line}
@@ -7,7 +7,7 @@ use Rattle.serial_log.specs.declared.line.Line.TheVariants as line
 use Rattle.serial_log.specs.declared.printed.Printed.{Printed}
 use Rattle.serial_log.specs.declared.mark.Mark.{Mark}
 use Rattle.serial_log.specs.declared.mark.MarkKind.{MarkKind}
-use Rattle.serial_log.specs.declared.mark.MarkKind.TheVariants.{Boot, Posted, Done, Commit, Abort, End}
+use Rattle.serial_log.specs.declared.mark.MarkKind.TheVariants.{Boot, Posted, Commit, Abort, End}
 use Rattle.serial_log.specs.Standing.{Standing, opening, after_mark}
 use Rattle.serial_log.specs.Postings.{Terms}
 use Rattle.serial_log.specs.Legal.{IsLegalMark}
@@ -16,15 +16,13 @@ use Rattle.serial_log.specs.Legal.{IsLegalMark}
 abbrev pub shown_as : ℕ → MarkKind → List Line
 shown_as at (Boot number) = line.Boot number at ∷ []
 shown_as at (Posted posted) = line.Post at posted ∷ []
-shown_as at (Done task) = []
 shown_as at (Commit committed) = line.Commit committed ∷ []
 shown_as at (Abort aborted) = line.Abort aborted ∷ []
-shown_as at (End end) = []
+shown_as at _ = []
 
 -- the lines of a history
 abbrev pub lines_of : List Mark → List Line
-lines_of [] = []
-lines_of (mark ∷ more) = shown_as mark.at mark.kind ++ lines_of more
+lines_of marks = flat_map (λ mark. shown_as mark.at mark.kind) marks
 
 abbrev pub mark_at : ℕ → MarkKind → Mark
 mark_at at kind = record { at = at; kind = kind }

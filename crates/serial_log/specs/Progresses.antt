@@ -6,9 +6,9 @@ use Rattle.coati_word.specs.declared.mode.Mode.TheVariants.{Split, Buffi}
 use Rattle.task_syntax.specs.declared.program.Program.{Program}
 use Rattle.serial_log.specs.declared.mark.Mark.{Mark}
 use Rattle.serial_log.specs.declared.mark.MarkKind.{MarkKind}
-use Rattle.serial_log.specs.declared.mark.MarkKind.TheVariants.{Boot, Posted, Done, Commit, Abort, End}
+use Rattle.serial_log.specs.declared.mark.MarkKind.TheVariants.{Posted, Done, Commit, Abort}
 use Rattle.serial_log.specs.declared.unit.Unit.{Unit as Committed}
-use Rattle.serial_log.specs.declared.unit.Unit.TheVariants.{Task, Transaction, Event}
+use Rattle.serial_log.specs.declared.unit.Unit.TheVariants.{Event}
 use Rattle.serial_log.specs.Marks.{boot_times}
 use Rattle.serial_log.specs.Walk.{walk, Each}
 use Rattle.serial_log.specs.Standing.{Standing, opening, after_mark, standing_of, EachMark}
@@ -16,27 +16,19 @@ use Rattle.serial_log.specs.Legal.{IsDoneWith}
 
 -- the unit is one of tasks
 abbrev pub IsOfTasks : Committed → Type 0
-IsOfTasks (Task task) = Unit {0}
-IsOfTasks (Transaction tx) = Unit {0}
 IsOfTasks (Event event) = ⊥
+IsOfTasks _ = Unit {0}
 
 -- a task is done, or a task or transaction is committed
 abbrev pub EndsTask : MarkKind → Type 0
-EndsTask (Boot number) = ⊥
-EndsTask (Posted posted) = ⊥
 EndsTask (Done task) = Unit {0}
 EndsTask (Commit committed) = IsOfTasks committed.unit
-EndsTask (Abort aborted) = ⊥
-EndsTask (End end) = ⊥
+EndsTask _ = ⊥
 
 -- a machine step, told by the clock after it, is one of a handler that answers with this mark
 abbrev pub IsStepOfHandler : ℕ → ℕ → MarkKind → Type 0
-IsStepOfHandler step at (Boot number) = ⊥
 IsStepOfHandler step at (Posted posted) = (posted.from < step) × (step ≤ at)
-IsStepOfHandler step at (Done task) = ⊥
-IsStepOfHandler step at (Commit committed) = ⊥
-IsStepOfHandler step at (Abort aborted) = ⊥
-IsStepOfHandler step at (End end) = ⊥
+IsStepOfHandler step at _ = ⊥
 
 -- no boot comes between two times, and no machine step of a handler
 pub record IsLeftAlone (from to : ℕ) (marks : List Mark) : Type 0 where
@@ -61,21 +53,16 @@ EndsTasksInTime program bound clock marks =
 
 -- the posting whose event has to come first, where a unit was given up for it
 abbrev pub awaited_by : Option ℕ → MarkKind → Option ℕ
-awaited_by awaited (Boot number) = awaited
-awaited_by awaited (Posted posted) = awaited
 awaited_by awaited (Done task) = None
 awaited_by awaited (Commit committed) = None
 awaited_by awaited (Abort aborted) = Some aborted.posting
-awaited_by awaited (End end) = awaited
+awaited_by awaited _ = awaited
 
 abbrev pub IsServedFirst : Option ℕ → MarkKind → Type 0
-IsServedFirst None mark = Unit {0}
-IsServedFirst (Some posting) (Boot number) = Unit {0}
-IsServedFirst (Some posting) (Posted posted) = Unit {0}
 IsServedFirst (Some posting) (Done task) = ⊥
 IsServedFirst (Some posting) (Commit committed) = committed.posting ≡ posting
 IsServedFirst (Some posting) (Abort aborted) = ⊥
-IsServedFirst (Some posting) (End end) = Unit {0}
+IsServedFirst _ _ = Unit {0}
 
 abbrev pub awaited_of : List Mark → Option ℕ
 awaited_of marks = walk (λ awaited mark. awaited_by awaited mark.kind) None marks
@@ -90,17 +77,12 @@ pub record Settled : Type 0 where
   pub settled : ℕ
 
 abbrev pub settled_by_unit : Committed → Settled → ℕ
-settled_by_unit (Task task) s = s.standing.accepted
-settled_by_unit (Transaction tx) s = s.standing.accepted
 settled_by_unit (Event event) s = s.settled
+settled_by_unit _ s = s.standing.accepted
 
 abbrev pub settled_by : MarkKind → Settled → ℕ
-settled_by (Boot number) s = s.settled
-settled_by (Posted posted) s = s.settled
-settled_by (Done task) s = s.settled
 settled_by (Commit committed) s = settled_by_unit committed.unit s
-settled_by (Abort aborted) s = s.settled
-settled_by (End end) s = s.settled
+settled_by _ s = s.settled
 
 abbrev pub none_settled : Program → Settled
 none_settled program = record { standing = opening program; settled = 0 }

@@ -3,12 +3,12 @@ use Rattle.std.specs.Prelude.{ℕ, ◌+◌, ◌==◌, List, [], ◌∷◌, ◌++
 use Rattle.task_syntax.specs.declared.program.Program.{Program}
 use Rattle.serial_log.specs.declared.mark.Mark.{Mark}
 use Rattle.serial_log.specs.declared.mark.MarkKind.{MarkKind}
-use Rattle.serial_log.specs.declared.mark.MarkKind.TheVariants.{Boot, Posted, Done, Commit, Abort, End}
+use Rattle.serial_log.specs.declared.mark.MarkKind.TheVariants.{Boot, Posted, Commit}
 use Rattle.serial_log.specs.declared.posted.Posted.{Posted as Raised}
 use Rattle.serial_log.specs.declared.posted.Answer.{Answer}
 use Rattle.serial_log.specs.declared.posted.Answer.TheVariants.{Accepted, Full, Lost}
 use Rattle.serial_log.specs.declared.unit.Unit.{Unit as Committed}
-use Rattle.serial_log.specs.declared.unit.Unit.TheVariants.{Task, Transaction, Event}
+use Rattle.serial_log.specs.declared.unit.Unit.TheVariants.{Event}
 use Rattle.serial_log.specs.declared.held.Held.{Held}
 use Rattle.serial_log.specs.SerialRun.{Stand, opening_stand, behind_record}
 use Rattle.serial_log.specs.Walk.{walk, Each}
@@ -53,9 +53,8 @@ without number (held ∷ more) = if held.number == number then more else held �
 
 -- what is left of the postings when a unit is committed
 abbrev pub left_by : Committed → ℕ → List Held → List Held
-left_by (Task task) posting rest = rest
-left_by (Transaction tx) posting rest = rest
 left_by (Event event) posting rest = without posting rest
+left_by _ posting rest = rest
 
 abbrev pub after_answer : Standing → Raised → Answer → Standing
 after_answer s posted (Accepted number) = record s {
@@ -69,13 +68,11 @@ after_answer s posted (Lost boot) = record s { raised = one_more_of posted.devic
 abbrev pub after_kind : Program → Standing → ℕ → MarkKind → Standing
 after_kind program s at (Boot number) = record s { boots = s.boots + 1; last_boot = at; lost = None }
 after_kind program s at (Posted posted) = after_answer s posted posted.answer
-after_kind program s at (Done task) = s
 after_kind program s at (Commit committed) = record s {
   run = behind_record program s.rest s.run committed;
   rest = left_by committed.unit committed.posting s.rest;
 }
-after_kind program s at (Abort aborted) = s
-after_kind program s at (End end) = s
+after_kind program s at _ = s
 
 -- what a history stands for with one mark more
 abbrev pub after_mark : Program → Standing → Mark → Standing

@@ -1,5 +1,4 @@
-use Rattle.std.proofs.Common.{◌≡◌, ◌∙◌, sym, List, refl}
-use Rattle.serial_log.specs.Standing.{standing_of}
+use Rattle.std.proofs.Common.{◌≡◌, ◌∙◌, sym, refl}
 use Rattle.serial_log.specs.SerialRun.{stand_of}
 use Rattle.serial_log.proofs.SerialRuns.{runs_serially}
 use Rattle.serial_log.proofs.laws.commits_tell_the_stand.Goals as goal

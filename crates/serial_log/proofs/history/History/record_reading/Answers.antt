@@ -1,4 +1,4 @@
-use Rattle.std.proofs.Common.{◌≡◌, ◌∷◌, ◌++◌, ◌+◌, ◌<◌, ◌^◌, List, [], length, length-append, arith, ap}
+use Rattle.std.proofs.Common.{◌≡◌, ◌∷◌, ◌++◌, ◌+◌, List, [], length, length-append, arith, ap}
 use Rattle.coati_word.specs.declared.reading.Reading.{Reading}
 use Rattle.serial_log.specs.History.{Past}
 use Rattle.serial_log.proofs.Records.{records_more}

@@ -58,7 +58,8 @@ make_stand_in() {
     mkdir "$room/stand-in"
     cat >"$room/program" <<'END'
 #!/bin/sh
-echo "proved: $*: $(cat)"
+printf 'proved:'
+printf ' <%s>' "$@" "$(cat)"
 exit 4
 END
     cat >"$room/stand-in/rt" <<END
@@ -69,7 +70,8 @@ version) echo "a toolchain" ;;
 try)
     while [ "\$1" != -- ]; do shift; done
     shift
-    echo "unproved: \$*: \$(cat)"
+    printf 'unproved:'
+    printf ' <%s>' "\$@" "\$(cat)"
     printf 'checked: ended status=6\nrun=ended status=6 runners=1 proved=no\n' >&2
     exit 6
     ;;
@@ -103,8 +105,8 @@ try_matching_by_content() {
     make_stand_in
     make_path_without_toolchain
     with_toolchain=$room/stand-in:$PATH
-    proved='proved: one two words: input 4'
-    unproved='unproved: one two words: input 6 rt try'
+    proved='proved: <one> <two words> <input> 4'
+    unproved='unproved: <one> <two words> <input> 6 rt try'
     here=$room/new
 
     PATH=$with_toolchain

@@ -1,6 +1,8 @@
 #!/bin/sh
 # Times 500,000 steps over 256 variables: a task that assigns to each of them, so that its log is full.
 cd "$(dirname "$0")/.." || exit 1
+# What is timed is the proved program.
+./build || exit 1
 input=$(mktemp) || exit 1
 trap 'rm -f "$input"' EXIT
 {

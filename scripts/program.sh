@@ -38,13 +38,19 @@ crates_of_program() {
 # A run computes it each time. cksum takes a third of the time of sha256sum, and what it guards against is accident.
 sum_of_sources() (
     cd "$root" || exit 1
+    crates=$(crates_of_program)
     set -- crates.txt
-    for crate in $(crates_of_program | cut -d ' ' -f 1); do
+    while read -r crate _; do
         for part in src specs proofs; do
             [ ! -d "crates/$crate/$part" ] || set -- "$@" "crates/$crate/$part"
         done
-    done
-    find "$@" -type f -exec cksum {} + | LC_ALL=C sort | cksum | tr ' ' '-'
+    done <<END
+$crates
+END
+    find "$@" -type f -exec cksum {} + | LC_ALL=C sort | cksum | {
+        read -r checksum length
+        echo "$checksum-$length"
+    }
 )
 
 # Where the proved program of sources with that checksum is kept. It is not below crates/, where `rt ci` clears out/.

@@ -21,7 +21,8 @@ expect() {
 
 # A copy of the repository as a clone has it, with nothing built.
 clone() {
-    mkdir "$1" && tar -cf - --exclude=./.git --exclude='./crates/*/out' --exclude=./out . | tar -xf - -C "$1"
+    mkdir "$1" || exit 1
+    tar -cf - --exclude=./.git --exclude="./crates/*/out" --exclude=./out . | tar -xf - -C "$1"
 }
 
 # Runs ./coati of a clone, and keeps its output, what it says on standard error, and its status.

@@ -54,7 +54,7 @@ try_with_nothing_built() {
     expect_unproved usage
 }
 
-# A stand-in for `rt`, whose programs tell what they are, their words and their input, and end with a status of their own.
+# A stand-in for `rt`. Its programs tell what they are, their words and their input, and end with statuses of their own.
 make_stand_in() {
     mkdir "$room/stand-in"
     cat >"$room/program" <<'END'

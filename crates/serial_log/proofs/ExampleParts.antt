@@ -2,6 +2,7 @@
 use Rattle.std.proofs.Common.{◌≡◌, ℕ, ◌+◌, List, [], ◌∷◌}
 use Rattle.std.specs.Prelude.{Some, codes, slice_index}
 use Rattle.coati_word.specs.declared.reading.Reading.{Reading}
+use Rattle.coati_word.specs.declared.ending.Ending.TheVariants.{Next, Halt}
 use Rattle.coati_word.specs.declared.mode.Mode.TheVariants.{Split, Buffi}
 use Rattle.coati_word.specs.declared.operator.Op.TheVariants as op
 use Rattle.task_syntax.specs.declared.program.Program.{Program}
@@ -45,7 +46,7 @@ abbrev pub start : Store
 start = slice_index (1 ∷ 0 ∷ [])
 
 abbrev pub grown : Reached
-grown = record { done = Access.read 0 1 ∷ Access.wrote 0 2 ∷ Access.read 0 2 ∷ Access.wrote 0 20 ∷ []; place = halt }
+grown = record { done = Access.read 0 1 ∷ Access.wrote 0 2 ∷ Access.read 0 2 ∷ Access.wrote 0 20 ∷ []; endings = Next 1 ∷ Halt ∷ []; place = halt }
 
 pub grows : whole_effect adds 0 start 2 ≡ Some grown
 grows = simp layers
@@ -78,13 +79,13 @@ abbrev pub copies_terms : Terms
 copies_terms = record { program = copies; mode = Buffi; handler = 44 }
 
 abbrev pub copied : ℕ → Reached
-copied value = record { done = Access.read 0 value ∷ Access.wrote 1 value ∷ Access.read 1 value ∷ Access.wrote 1 (value + 1) ∷ []; place = halt }
+copied value = record { done = Access.read 0 value ∷ Access.wrote 1 value ∷ Access.read 1 value ∷ Access.wrote 1 (value + 1) ∷ []; endings = Next 1 ∷ Halt ∷ []; place = halt }
 
 pub copies_whole : tasks_effect copies 0 start 2 ≡ Some (copied 1)
 copies_whole = simp layers
 
 abbrev pub copied_first : Reached
-copied_first = record { done = Access.read 0 1 ∷ Access.wrote 1 1 ∷ []; place = 1 }
+copied_first = record { done = Access.read 0 1 ∷ Access.wrote 1 1 ∷ []; endings = Next 1 ∷ []; place = 1 }
 
 pub copies_first : tasks_effect copies 0 start 1 ≡ Some copied_first
 copies_first = simp layers
@@ -126,7 +127,7 @@ pub adds_twenty : event_effect counts 0 20 (after ten_added start) ≡ twenty_ad
 adds_twenty = simp layers
 
 abbrev pub counted : Reached
-counted = record { done = Access.read 1 0 ∷ Access.wrote 1 1 ∷ []; place = halt }
+counted = record { done = Access.read 1 0 ∷ Access.wrote 1 1 ∷ []; endings = Halt ∷ []; place = halt }
 
 pub counts_one : task_effect counts 0 (after twenty_added (after ten_added start)) ≡ counted
 counts_one = simp layers

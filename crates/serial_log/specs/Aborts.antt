@@ -3,7 +3,8 @@ use Rattle.std.specs.Prelude.{ℕ, ◌≡◌, ◌≤◌, List, true, Some, Conta
 use Rattle.coati_word.specs.declared.mode.Mode.TheVariants.{Buffi}
 use Rattle.task_syntax.specs.declared.program.Program.{Program}
 use Rattle.task_syntax.specs.Course.{Access, written_words}
-use Rattle.task_syntax.specs.Units.{Reached, first_task, tasks_effect, is_shared}
+use Rattle.task_syntax.specs.Units.{Reached, first_task, tasks_effect}
+use Rattle.task_syntax.specs.Written.{is_shared}
 use Rattle.task_syntax.specs.Events.{event_effect}
 use Rattle.serial_log.specs.declared.mark.Mark.{Mark}
 use Rattle.serial_log.specs.declared.mark.MarkKind.{MarkKind}

@@ -148,8 +148,16 @@ impl Checked {
         ensures event { result ≡ event_of self.now name.now }
         ensures within { IfSome result (λ event. event < length self.now.events) }
     {
+        self.event_named(name.as_slice())
+    }
+
+    /// The number of the event whose name these bytes are; none where no event has the name.
+    pub fn event_named(&self, name: &[u8]) -> Option<u16>
+        ensures event { result ≡ event_of self.now name.now }
+        ensures within { IfSome result (λ event. event < length self.now.events) }
+    {
         let program = self.program();
-        lookups::event_of(program.events.as_slice(), name)
+        lookups::event_named(program.events.as_slice(), name)
     }
 
     /// The number of a task's transaction; none where the task is lone or isn't there.

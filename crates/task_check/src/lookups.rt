@@ -117,14 +117,14 @@ fn task_among(first: u16, tasks: &[TaskDecl], name: &NameText) -> Option<u16>
 }
 
 /// The number of the event of a name.
-pub(crate) fn event_of(events: &[Event], name: &NameText) -> Option<u16>
+pub(crate) fn event_named(events: &[Event], name: &[u8]) -> Option<u16>
     requires { length events.now ≤ 16 }
     ensures event { result ≡ event_from 0 events.now name.now }
     ensures within { IfSome result (λ event. event < length events.now) }
 {
     let mut number = 0;
     for event in events {
-        if event.name.text == *name {
+        if event.name.text.as_slice() == name {
             return Some(number);
         }
         number += 1;

@@ -1,6 +1,6 @@
 use Rattle.std.proofs.Common.{◌≡◌, drop}
 use Rattle.task_check.specs.Numbers.{event_from}
-use Rattle.task_check.proofs.lookups.event_of.Given as goal
+use Rattle.task_check.proofs.lookups.event_named.Given as goal
 
 abbrev pub invariant-loop-event : goal.invariant-loop-event
 invariant-loop-event l = record {

@@ -6,6 +6,7 @@ use Rattle.word_code.specs.Code.{Bodies, body_words}
 use Rattle.word_code.specs.declared.instruction.Instr.{Instr}
 use Rattle.word_code.specs.Machine.{State, Move, move_of, StartsAt}
 use Rattle.word_code.proofs.Running.{one_starts}
+use Rattle.word_cpu.specs.Meaning.{Meaning}
 use Rattle.word_cpu.specs.declared.cpu.Cpu.{Cpu}
 use Rattle.word_cpu.specs.declared.turn.Turn.{Turn}
 use Rattle.word_cpu.specs.declared.turn.Turn.TheVariants.{Went, Storing, Ended}
@@ -26,36 +27,34 @@ pub for_the_move : (code : Bodies) (cpu : Cpu) (instr : Instr) (Fact : Move → 
 for_the_move code cpu instr Fact starts fact other there =
     subst (λ (i : Instr). Fact (move_of i (state_of cpu))) (one_starts (body_words code cpu.body) instr other (state_of cpu) starts there) fact
 
-module _ {V : Type 0} (words : V → List ℕ) (begun : V → ℕ → ℕ → ℕ → Type 0)
-    (loaded : V → ℕ → V → Type 0) (stored : V → ℕ → ℕ → ℕ → V → Bool → Type 0)
+module _ {V : Type 0} (meaning : Meaning V)
     (code : List ℕ) (before after : Cpu) (old new : V) where
   -- after the move of an instruction, the parts that are made are those of the store that starts then
   begun_by : (turn : Turn) (instr other : Instr) (move : Move) → StartsAt code instr (state_of before) → StartsAt code other (state_of after) →
-      move_of instr (state_of before) ≡ move → Makes words begun loaded stored before after old new turn move →
-      IsBegun (begun new) after.part (move_of other (state_of after))
-  begun_by turn instr other (Move.goes next) starts then is made = none_made (begun new) after.part _ made.part
-  begun_by turn instr other (Move.loads word next) starts then is made = none_made (begun new) after.part _ made.part
-  begun_by (Went None) instr other (Move.stores word value next) starts then is made = none_made (begun new) after.part _ made.part
+      move_of instr (state_of before) ≡ move → Makes meaning before after old new turn move →
+      IsBegun (meaning.begun new) after.part (move_of other (state_of after))
+  begun_by turn instr other (Move.goes next) starts then is made = none_made (meaning.begun new) after.part _ made.part
+  begun_by turn instr other (Move.loads word next) starts then is made = none_made (meaning.begun new) after.part _ made.part
+  begun_by (Went None) instr other (Move.stores word value next) starts then is made = none_made (meaning.begun new) after.part _ made.part
   begun_by (Went (Some reading)) instr other (Move.stores word value next) starts then is made = absurd made
   begun_by Storing instr other (Move.stores word value next) starts then is made =
       let same : instr ≡ other =
       one_starts code instr other (state_of before) starts (subst (λ (s : State). StartsAt code other s) made.state then) in
       let move_is : move_of other (state_of after) ≡ Move.stores word value next =
       ap (move_of other) made.state ∙ ap (λ (i : Instr). move_of i (state_of before)) (sym same) ∙ is in
-      let written : begun new word value after.part = subst (λ (n : ℕ). begun new word value n) (sym made.part) made.is_begun in
-      subst (λ (m : Move). IsBegun (begun new) after.part m) (sym move_is) (λ some. written)
+      let written : meaning.begun new word value after.part = subst (λ (n : ℕ). meaning.begun new word value n) (sym made.part) made.is_begun in
+      subst (λ (m : Move). IsBegun (meaning.begun new) after.part m) (sym move_is) (λ some. written)
   begun_by (Ended ending) instr other (Move.stores word value next) starts then is made = absurd made
-  begun_by turn instr other (Move.ends ending) starts then is made = none_made (begun new) after.part _ made.part
+  begun_by turn instr other (Move.ends ending) starts then is made = none_made (meaning.begun new) after.part _ made.part
 
 -- the same for the code of the machine's body
-module _ {V : Type 0} (words : V → List ℕ) (begun : V → ℕ → ℕ → ℕ → Type 0)
-    (loaded : V → ℕ → V → Type 0) (stored : V → ℕ → ℕ → ℕ → V → Bool → Type 0)
+module _ {V : Type 0} (meaning : Meaning V)
     (code : Bodies) (before after : Cpu) (old new : V) where
   pub begun_next : (turn : Turn) (shown : List ℕ) (instr : Instr) → shown ≡ body_words code before.body → after.body ≡ before.body →
-      StartsAt shown instr (state_of before) → Makes words begun loaded stored before after old new turn (move_of instr (state_of before)) →
-      OfTheMove code after (IsBegun (begun new) after.part)
+      StartsAt shown instr (state_of before) → Makes meaning before after old new turn (move_of instr (state_of before)) →
+      OfTheMove code after (IsBegun (meaning.begun new) after.part)
   begun_next turn shown instr same same_body starts made other then =
-      begun_by words begun loaded stored (body_words code before.body) before after old new turn instr other (move_of instr (state_of before))
+      begun_by meaning (body_words code before.body) before after old new turn instr other (move_of instr (state_of before))
       (subst (λ (w : List ℕ). StartsAt w instr (state_of before)) same starts)
       (subst (λ (b : BodyId). StartsAt (body_words code b) other (state_of after)) same_body then)
       refl made

@@ -1,3 +1,5 @@
+pub mod Meaning
 pub mod OnCourse
 pub mod Reached
 pub mod Turning
+pub mod UnderWay

@@ -7,6 +7,7 @@ use Rattle.word_code.specs.Code.{Bodies, body_words}
 use Rattle.word_code.specs.Machine.{State, Move, move_of, StartsAt}
 use Rattle.word_code.specs.Following.{Runs}
 use Rattle.word_code.specs.Running.{moved, word_list}
+use Rattle.word_cpu.specs.Meaning.{Meaning}
 use Rattle.word_cpu.specs.declared.cpu.Cpu.{Cpu}
 use Rattle.word_cpu.specs.declared.turn.Turn.{Turn}
 use Rattle.word_cpu.specs.declared.turn.Turn.TheVariants.{Went, Storing, Ended}
@@ -24,15 +25,15 @@ abbrev pub OfTheMove : Bodies → Cpu → (Move → Type 0) → Type 0
 OfTheMove code cpu Fact = (instr : Instr) → StartsAt (body_words code cpu.body) instr (state_of cpu) → Fact (move_of instr (state_of cpu))
 
 -- the move is a store of which the parts before this one are written
-abbrev pub IsUnderWay : (ℕ → ℕ → ℕ → Type 0) → ℕ → Move → Type 0
-IsUnderWay begun part (Move.goes next) = ⊥
-IsUnderWay begun part (Move.loads word next) = ⊥
-IsUnderWay begun part (Move.stores word value next) = begun word value part
-IsUnderWay begun part (Move.ends ending) = ⊥
+abbrev pub IsBegunStore : (ℕ → ℕ → ℕ → Type 0) → ℕ → Move → Type 0
+IsBegunStore begun part (Move.goes next) = ⊥
+IsBegunStore begun part (Move.loads word next) = ⊥
+IsBegunStore begun part (Move.stores word value next) = begun word value part
+IsBegunStore begun part (Move.ends ending) = ⊥
 
 -- where parts of a store are made, the move is that store
 abbrev pub IsBegun : (ℕ → ℕ → ℕ → Type 0) → ℕ → Move → Type 0
-IsBegun begun part move = 0 < part → IsUnderWay begun part move
+IsBegun begun part move = 0 < part → IsBegunStore begun part move
 
 -- the move touches no variable word and doesn't end the body
 abbrev pub IsGoing : Move → Type 0
@@ -55,31 +56,30 @@ pub record HasEnded {V : Type 0} (ending : Ending) (before after : Cpu) (old new
   pub part : after.part ≡ 0
   pub view : new ≡ old
 
-module _ {V : Type 0} (words : V → List ℕ) (begun : V → ℕ → ℕ → ℕ → Type 0)
-    (loaded : V → ℕ → V → Type 0) (stored : V → ℕ → ℕ → ℕ → V → Bool → Type 0) where
+module _ {V : Type 0} (meaning : Meaning V) where
   -- a word was loaded and read, and the machine went on with it
   pub record HasLoaded (word : ℕ) (next : ℕ → State) (before after : Cpu) (old new : V) (turn : Turn) : Type 0 where
-    pub answer : turn ≡ Went (Some (record { word = word; value = slice_index (words old) word }))
-    pub state : state_of after ≡ next (slice_index (words old) word)
+    pub answer : turn ≡ Went (Some (record { word = word; value = slice_index (meaning.words old) word }))
+    pub state : state_of after ≡ next (slice_index (meaning.words old) word)
     pub part : after.part ≡ 0
-    pub words_stay : words new ≡ words old
-    pub view : loaded old word new
+    pub words_stay : meaning.words new ≡ meaning.words old
+    pub view : meaning.loaded old word new
 
   -- a value was stored in a word by the last part of the store, and the machine went on
   pub record HasStored (word value : ℕ) (next : State) (before after : Cpu) (old new : V) : Type 0 where
     pub state : state_of after ≡ next
     pub part : after.part ≡ 0
-    pub words_are : words new ≡ slice_set (words old) word value
-    pub view : stored old word value before.part new true
+    pub words_are : meaning.words new ≡ slice_set (meaning.words old) word value
+    pub view : meaning.stored old word value before.part new true
 
   -- a part of the store was made that wasn't the last
   pub record IsStoring (word value : ℕ) (before after : Cpu) (old new : V) : Type 0 where
     pub state : state_of after ≡ state_of before
     pub part : after.part ≡ before.part + 1
     pub few : before.part < 2
-    pub words_stay : words new ≡ words old
-    pub is_begun : begun new word value (before.part + 1)
-    pub view : stored old word value before.part new false
+    pub words_stay : meaning.words new ≡ meaning.words old
+    pub is_begun : meaning.begun new word value (before.part + 1)
+    pub view : meaning.stored old word value before.part new false
 
   -- a part of a store, by what the step answered
   abbrev pub StoresPart : ℕ → ℕ → State → Cpu → Cpu → V → V → Turn → Type 0
@@ -99,13 +99,13 @@ module _ {V : Type 0} (words : V → List ℕ) (begun : V → ℕ → ℕ → �
   -- leaves state and words; and where the body ended nothing follows
   abbrev pub StepsOnWords : Cpu → Cpu → V → V → Turn → Move → Type 0
   StepsOnWords before after old new (Went reading) move =
-      moved word_list move (words old) ≡ Some (record { state = state_of after; memory = words new })
-  StepsOnWords before after old new Storing move = (state_of after ≡ state_of before) × (words new ≡ words old)
-  StepsOnWords before after old new (Ended ending) move = moved word_list move (words old) ≡ None
+      moved word_list move (meaning.words old) ≡ Some (record { state = state_of after; memory = meaning.words new })
+  StepsOnWords before after old new Storing move = (state_of after ≡ state_of before) × (meaning.words new ≡ meaning.words old)
+  StepsOnWords before after old new (Ended ending) move = moved word_list move (meaning.words old) ≡ None
 
   -- a machine step: it makes the move of the instruction that starts in the machine's state, or a part of it; and behind it
   -- the parts that are made of a store are those of the move that comes next
   pub record IsStep (code : Bodies) (before after : Cpu) (old new : V) (turn : Turn) : Type 0 where
     pub body : after.body ≡ before.body
     pub makes : OfTheMove code before (Makes before after old new turn)
-    pub is_begun : OfTheMove code after (IsBegun (begun new) after.part)
+    pub is_begun : OfTheMove code after (IsBegun (meaning.begun new) after.part)

@@ -4,7 +4,7 @@ ghost use Rattle.word_code.specs.declared.instruction.Instr.{Instr as Instructio
 ghost use Rattle.word_code.specs.Code.{HasBody};
 ghost use Rattle.word_code.specs.Instruction.{IsEncodable, decoded, width};
 ghost use Rattle.word_code.specs.Machine.{CanRun, Move, behind, below, move_of, top};
-ghost use Rattle.word_cpu.specs.Reached.{IsAtStart};
+ghost use Rattle.word_cpu.specs.UnderWay.{IsAtStart};
 ghost use Rattle.word_cpu.specs.Turning.{CanStep, HasLoaded, HasStored, IsBegun, IsGoing, IsStep, IsStoring, Makes, OfTheMove, StepsOnWords, StoresPart, state_of};
 
 use crate::locals::Locals;
@@ -46,12 +46,12 @@ impl Cpu {
     pub fn step<V: View>(&mut self, code: &Code, view: &mut V) -> Turn
         requires exists { HasBody code.now self.old.body }
         // A word's number is a u16.
-        requires few { length (V.words view.old) ≤ 2 ^ 16 }
-        requires runs { CanStep code.now self.old (length (V.words view.old)) }
-        requires begun { OfTheMove code.now self.old (IsBegun (V.begun view.old) self.old.part) }
-        ensures step { IsStep V.words V.begun V.loaded V.stored code.now self.old self.new view.old view.new result }
+        requires few { length (V.meaning.words view.old) ≤ 2 ^ 16 }
+        requires runs { CanStep code.now self.old (length (V.meaning.words view.old)) }
+        requires begun { OfTheMove code.now self.old (IsBegun (V.meaning.begun view.old) self.old.part) }
+        ensures step { IsStep V.meaning code.now self.old self.new view.old view.new result }
         ensures words { OfTheMove code.now self.old
-            (StepsOnWords V.words V.begun V.loaded V.stored self.old self.new view.old view.new result) }
+            (StepsOnWords V.meaning self.old self.new view.old view.new result) }
     {
         let instr = instruction_at(code.body(self.body), self.place);
         self.act(instr, view)
@@ -60,12 +60,12 @@ impl Cpu {
     #[tactic(auto, using(crate::proofs::Begun::not_above_0))]
     fn act<V: View>(&mut self, instr: Instr, view: &mut V) -> Turn
         requires room { self.old.place < 2 ^ 62 }
-        requires few { length (V.words view.old) ≤ 2 ^ 16 }
+        requires few { length (V.meaning.words view.old) ≤ 2 ^ 16 }
         requires in_range { IsEncodable instr }
-        requires can_run { CanRun (length (V.words view.old)) instr (state_of self.old) }
-        requires begun { IsBegun (V.begun view.old) self.old.part (move_of instr (state_of self.old)) }
+        requires can_run { CanRun (length (V.meaning.words view.old)) instr (state_of self.old) }
+        requires begun { IsBegun (V.meaning.begun view.old) self.old.part (move_of instr (state_of self.old)) }
         ensures body { self.new.body ≡ self.old.body }
-        ensures makes { Makes V.words V.begun V.loaded V.stored self.old self.new view.old view.new result
+        ensures makes { Makes V.meaning self.old self.new view.old view.new result
             (move_of instr (state_of self.old)) }
     {
         match instr {
@@ -132,9 +132,9 @@ impl Cpu {
         requires width { width < 4 }
         requires part { self.old.part ≡ 0 }
         requires room { length self.old.operands < 32 }
-        requires word { word < length (V.words view.old) }
+        requires word { word < length (V.meaning.words view.old) }
         ensures body { self.new.body ≡ self.old.body }
-        ensures loads { HasLoaded V.words V.begun V.loaded V.stored word
+        ensures loads { HasLoaded V.meaning word
             (λ value. behind width (value ∷ self.old.operands) (state_of self.old))
             self.old self.new view.old view.new result }
     {
@@ -147,10 +147,10 @@ impl Cpu {
     fn store<V: View>(&mut self, view: &mut V, word: u16) -> Turn
         requires place { self.old.place < 2 ^ 62 }
         requires operand { 0 < length self.old.operands }
-        requires word { word < length (V.words view.old) }
-        requires begun { 0 < self.old.part → V.begun view.old word (top self.old.operands) self.old.part }
+        requires word { word < length (V.meaning.words view.old) }
+        requires begun { 0 < self.old.part → V.meaning.begun view.old word (top self.old.operands) self.old.part }
         ensures body { self.new.body ≡ self.old.body }
-        ensures stores { StoresPart V.words V.begun V.loaded V.stored word (top self.old.operands)
+        ensures stores { StoresPart V.meaning word (top self.old.operands)
             (behind 2 (below self.old.operands) (state_of self.old))
             self.old self.new view.old view.new result }
     {
@@ -165,10 +165,10 @@ impl Cpu {
     fn store_item<V: View>(&mut self, view: &mut V, word: u16) -> Turn
         requires place { self.old.place < 2 ^ 62 }
         requires operands { 1 < length self.old.operands }
-        requires word { word < length (V.words view.old) }
-        requires begun { 0 < self.old.part → V.begun view.old word (top self.old.operands) self.old.part }
+        requires word { word < length (V.meaning.words view.old) }
+        requires begun { 0 < self.old.part → V.meaning.begun view.old word (top self.old.operands) self.old.part }
         ensures body { self.new.body ≡ self.old.body }
-        ensures stores { StoresPart V.words V.begun V.loaded V.stored word (top self.old.operands)
+        ensures stores { StoresPart V.meaning word (top self.old.operands)
             (behind 3 (below (below self.old.operands)) (state_of self.old))
             self.old self.new view.old view.new result }
     {
@@ -184,12 +184,12 @@ impl Cpu {
     // The next part of the store of the last operand in a word. It answers true where it was the last.
     fn store_part<V: View>(&mut self, view: &mut V, word: u16) -> bool
         requires operand { 0 < length self.old.operands }
-        requires word { word < length (V.words view.old) }
-        requires begun { 0 < self.old.part → V.begun view.old word (top self.old.operands) self.old.part }
+        requires word { word < length (V.meaning.words view.old) }
+        requires begun { 0 < self.old.part → V.meaning.begun view.old word (top self.old.operands) self.old.part }
         ensures body { self.new.body ≡ self.old.body }
-        ensures last { OnTrue result (HasStored V.words V.begun V.loaded V.stored word (top self.old.operands)
+        ensures last { OnTrue result (HasStored V.meaning word (top self.old.operands)
             (state_of self.old) self.old self.new view.old view.new) }
-        ensures more { OnFalse result (IsStoring V.words V.begun V.loaded V.stored word (top self.old.operands)
+        ensures more { OnFalse result (IsStoring V.meaning word (top self.old.operands)
             self.old self.new view.old view.new) }
     {
         let value = self.operands.last();

@@ -9,11 +9,11 @@ returns-clause-step g c = record {
   body = c.act.ensures.body;
   makes =
       for_the_move c.args.code.now c.args.self.now c.instruction_at-instr.result
-      (Makes g.V.View.words g.V.View.begun g.V.View.loaded g.V.View.stored c.args.self.now c.act.new.self c.args.view.now c.act.new.view c.act.result)
+      (Makes g.V.View.meaning c.args.self.now c.act.new.self c.args.view.now c.act.new.view c.act.result)
       (subst (λ (shown : List ℕ). StartsAt shown c.instruction_at-instr.result (state_of c.args.self.now)) c.body.ensures c.instruction_at-instr.ensures.starts)
       c.act.ensures.makes;
   is_begun =
-      begun_next g.V.View.words g.V.View.begun g.V.View.loaded g.V.View.stored c.args.code.now
+      begun_next g.V.View.meaning c.args.code.now
       c.args.self.now c.act.new.self c.args.view.now c.act.new.view c.act.result
       c.body.result.now c.instruction_at-instr.result c.body.ensures c.act.ensures.body c.instruction_at-instr.ensures.starts c.act.ensures.makes;
 }

@@ -10,9 +10,9 @@ use Rattle.nv_memory.specs.Ring.{is_taking, position_after, positions, positions
 
 -- from the head to the tail there are as many entries as are held, or one more while the head's is taken
 pub record IsRing (s : State) : Type 0 where
-  pub head : head s < positions s.k
-  pub head_next : head_next s < positions s.k
-  pub tail : tail s < positions s.k
+  pub head_low : head s < positions s.k
+  pub next_low : head_next s < positions s.k
+  pub tail_low : tail s < positions s.k
   pub few : is_taking s ≡ false → positions_between s.k (head s) (tail s) ≤ s.k
   pub taken_some : is_taking s ≡ true → 1 ≤ positions_between s.k (head s) (tail s)
   pub taken_few : is_taking s ≡ true → positions_between s.k (head s) (tail s) ≤ s.k + 1
@@ -40,7 +40,7 @@ pub record ArePlacesInRange (tasks : ℕ) (s : State) : Type 0 where
   pub first : IsPlace tasks (first s)
 
 pub record IsClosed (s : State) : Type 0 where
-  pub log : opened s ≡ 0 → mark s ≢ 1 → IsEmpty s log.Tx
+  pub empty : opened s ≡ 0 → mark s ≢ 1 → IsEmpty s log.Tx
   pub flags : opened s ≡ 0 → mark s ≢ 1 → (word : ℕ) → word < s.n → tx_flag s word ≡ false
   pub doomed_mark : doomed s ≡ 1 → mark s ≡ 0
   pub doomed_place : doomed s ≡ 1 → (opened s ≡ 1) ⊎ (current s ≡ first s)

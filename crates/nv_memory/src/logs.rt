@@ -26,10 +26,8 @@ impl Image {
         ensures below { result.0 < self.now.n }
         ensures found { log_value (state self.now) log result.0 ≡ Some result.1 }
     {
-        let layout = self.layout();
-        let number = self.get(layout.number(log, i));
-        let value = self.get(layout.value(log, i));
-        (number, value)
+        let _layout = self.layout();
+        (self.number(log, i), self.value(log, i))
     }
 
     /// Which pair of a log has a word.
@@ -39,17 +37,17 @@ impl Image {
         ensures index { result ≡ log_index (state self.now) log word }
         ensures low { MatchOption result Unit (λ i. i < log_length (state self.now) log) }
     {
-        let layout = self.layout();
         let mut i = self.length(log);
         while i > 0 {
             i -= 1;
-            if self.get(layout.number(log, i)) == word {
+            if self.number(log, i) == word {
                 return Some(i);
             }
         }
         None
     }
 
+    #[tactic(auto, using(crate::proofs::Looks::look_some, crate::proofs::Looks::look_none))]
     /// The value of a word in a log; none exactly where no pair has the word.
     pub fn find(&self, log: Log, word: u16) -> Option<u16>
         requires range { InRange (state self.now) }
@@ -57,6 +55,22 @@ impl Image {
         ensures { result ≡ log_value (state self.now) log word }
     {
         let i = self.index(log, word)?;
-        Some(self.get(self.layout().value(log, i)))
+        Some(self.value(log, i))
+    }
+
+    fn number(&self, log: Log, i: u16) -> u16
+        requires log { HasLog self.now.k log }
+        requires pair { i < self.now.n }
+        ensures { result ≡ number_in (state self.now) (seats_of log) i }
+    {
+        self.get(self.layout().number(log, i))
+    }
+
+    fn value(&self, log: Log, i: u16) -> u16
+        requires log { HasLog self.now.k log }
+        requires pair { i < self.now.n }
+        ensures { result ≡ pair_value_in (state self.now) (seats_of log) i }
+    {
+        self.get(self.layout().value(log, i))
     }
 }

@@ -1,5 +1,5 @@
 -- Look-ups among the first pairs of a log.
-use Rattle.std.proofs.Common.{◌≡◌, ◌≢◌, ℕ, zero, suc, ◌+◌, ◌<◌, ◌==◌, refl, ap, subst, ◌∙◌, arith, Bool, true, false, if◌then◌else◌, Some, None, Option}
+use Rattle.std.proofs.Common.{◌≡◌, ◌≢◌, ℕ, zero, suc, ◌+◌, ◌-◌, ◌<◌, ◌==◌, refl, ap, subst, ◌∙◌, arith, Bool, true, false, if◌then◌else◌, Some, None, Option}
 use Rattle.std.proofs.lemmas.Bool.Decides.{nat_tests}
 use Rattle.nv_memory.specs.Logs.{index_of, look_up}
 
@@ -142,3 +142,10 @@ index_at num (suc k) i once l = at_step num k i (num k == num i) refl once l (λ
     at_step num k i false is once l more =
         let differ : i ≢ k = λ e. let yes : (num k == num i) ≡ true = test_same (num k) (num i) (ap num (let back : k ≡ i = omega (arith, e) in back)) in absurd cc in
         more (omega (arith, differ))
+
+-- the last of the pairs doesn't have the word
+pub index_before : (num : ℕ → ℕ) (k word : ℕ) → 0 < k → num (k - 1) ≢ word → index_of num k word ≡ index_of num (k - 1) word
+index_before num zero word some n = absurd (omega arith)
+index_before num (suc k) word some n = let e : suc k - 1 ≡ k = omega arith in
+    let other : num k ≢ word = subst (λ (i : ℕ). num i ≢ word) e n in
+    rw e (rw (test_other (num k) word other) refl)

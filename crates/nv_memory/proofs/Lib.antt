@@ -1,3 +1,4 @@
 pub mod Seats
 pub mod Puts
 pub mod Looks
+pub mod Blank

@@ -37,12 +37,12 @@ same_row w s t i j h k e = elim (cases_lt s t) [
 ]
 
 -- the seat is one of the image, by its numbers
-abbrev IsIn : ℕ → ℕ → Seat → Type 0
+abbrev pub IsIn : ℕ → ℕ → Seat → Type 0
 IsIn n k (Seat.Header i) = i < 12
 IsIn n k (Seat.Part part word) = (part < 7) × (word < n)
 IsIn n k (Seat.Entry slot part at) = (slot < k + 1) × (part < 3) × (at < part_size n part)
 
-is_in : (n k : ℕ) (seat : Seat) → is_seat n k seat ≡ true → IsIn n k seat
+pub is_in : (n k : ℕ) (seat : Seat) → is_seat n k seat ≡ true → IsIn n k seat
 is_in n k (Seat.Header i) e = grind (arith, nat_tests)
 is_in n k (Seat.Part part word) e = (grind (arith, nat_tests), grind (arith, nat_tests))
 is_in n k (Seat.Entry slot part at) e = (grind (arith, nat_tests), grind (arith, nat_tests), grind (arith, nat_tests))

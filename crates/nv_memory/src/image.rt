@@ -1,13 +1,13 @@
 ghost use Rattle.std.specs.Prelude.{◌≡◌, ◌<◌, ◌≤◌, IfOk, length, slice_index};
-ghost use Rattle.nv_memory.specs.Blank.{blank};
-ghost use Rattle.nv_memory.specs.Seats.{IsMemory, size, written};
+ghost use Rattle.nv_memory.specs.Blank.{blank, blank_words, header_words};
+ghost use Rattle.nv_memory.specs.Seats.{IsMemory, IsSized, size, written};
 ghost use Rattle.nv_memory.specs.State.{state};
 
 use crate::header;
 use crate::layout::Layout;
 use crate::write::Write;
 use coati_word::{Mode, OutOfMemory};
-use std::alloc::Global;
+use std::alloc::{AllocError, Global};
 use std::marker::Model;
 
 /// Nonvolatile memory. A contract sees the list of its words, and how many are variables and entries; what stands in them is
@@ -41,13 +41,7 @@ impl Image {
             n: opening.len() as u16,
             k,
         };
-        let mut words = Vec::from_elem(alloc, 0, layout.size() as usize).map_err(|_| OutOfMemory)?;
-        words[header::MODE as usize] = match mode {
-            Mode::Split => 0,
-            Mode::Buffi => 1,
-        };
-        let variables = layout.variable(0) as usize;
-        words[variables..variables + opening.len()].copy_from_slice(opening);
+        let words = blank_words(alloc, layout, opening, mode).map_err(|_| OutOfMemory)?;
         Ok(Image { layout, words })
     }
 
@@ -82,4 +76,33 @@ impl Image {
         let _words = &self.words;
         self.layout
     }
+}
+
+fn blank_words(
+    alloc: Global,
+    layout: Layout,
+    opening: &[u16],
+    mode: Mode,
+) -> Result<Vec<u16>, AllocError>
+    requires sizes { IsSized layout.n layout.k }
+    requires count { layout.n ≡ length opening.now }
+    ensures { IfOk result (λ v. v.items ≡ blank_words layout.k opening.now mode) }
+{
+    let size = layout.size() as usize;
+    let mut words = Vec::with_capacity(alloc, size)?;
+    words.extend_from_slice(&header_words(mode))?;
+    words.extend_from_slice(opening)?;
+    words.resize(size, 0)?;
+    Ok(words)
+}
+
+fn header_words(mode: Mode) -> [u16; 12]
+    ensures { result ≡ header_words mode }
+{
+    let mut words = [0; 12];
+    words[header::MODE as usize] = match mode {
+        Mode::Split => 0,
+        Mode::Buffi => 1,
+    };
+    words
 }

@@ -6,3 +6,5 @@ pub mod Ring
 pub mod StandsFor
 pub mod InRange
 pub mod Blank
+pub mod LogLaws
+pub mod RingLaws

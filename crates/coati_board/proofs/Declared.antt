@@ -1,5 +1,6 @@
 -- Names are found where they are declared.
-use Rattle.std.proofs.Common.{◌≡◌, ℕ, zero, suc, ◌+◌, ◌<◌, List, [], ◌∷◌, ◌++◌, length, get_or, drop, refl, ap, ◌∙◌, arith, if◌then◌else◌, Some, None, ◌-◌, replicate, length-append}
+use Rattle.std.proofs.Common.{◌≡◌, ℕ, zero, suc, ◌+◌, ◌<◌, List, [], ◌∷◌, ◌++◌, length, get_or, drop, refl, ap, ◌∙◌, arith, if◌then◌else◌, Option, Some, None, ◌-◌, replicate, length-append}
+use Rattle.std.specs.Prelude.{option_and_then}
 use Rattle.std.specs.Str.{bytes_eq}
 use Rattle.std.specs.List.{flat_map, slice_get, All, AllByRecursion}
 use Rattle.std.proofs.lemmas.List.Elements.{recursion_from_All}
@@ -14,7 +15,7 @@ use Rattle.task_syntax.specs.declared.program.Init.{Init}
 use Rattle.task_syntax.specs.declared.program.Init.TheVariants as init
 use Rattle.coati_board.specs.FirstForm.{IsFirstForm, IsScalar, IsInitOfScalar, IsLone, IsBody}
 use Rattle.coati_board.specs.Tasks.{task_body}
-use Rattle.task_syntax.specs.Units.{statements_of}
+use Rattle.task_syntax.specs.Units.{statements_of, memberships, transaction_of}
 
 -- the names from a place on: the scalar there, or those behind it
 pub words_step : (vars : List Var) (i : ℕ) (var : Var) (name : List ℕ) → i < length vars → var ≡ get_or vars i var → All IsScalar vars
@@ -31,6 +32,16 @@ lone_count (Tx tx ∷ more) h = absurd h.0
 
 pub tasks_count : (p : Program) → IsFirstForm p → length (tasks p) ≡ length p.units
 tasks_count p form = lone_count p.units (recursion_from_All IsLone p.units form.lone)
+
+lone_members : (tx task : ℕ) (units : List UnitDecl) → AllByRecursion IsLone units → option_and_then (λ number. number) (slice_get (memberships tx units) task) ≡ None
+lone_members tx task [] h = refl
+lone_members tx zero (Lone first ∷ more) h = refl
+lone_members tx (suc task) (Lone first ∷ more) h = lone_members tx task more h.1
+lone_members tx task (Tx members ∷ more) h = absurd h.0
+
+-- each task is in no transaction
+pub task_alone : (p : Program) (task : ℕ) → IsFirstForm p → transaction_of p task ≡ None
+task_alone p task form = lone_members 0 task p.units (recursion_from_All IsLone p.units form.lone)
 
 lone_body : (units : List UnitDecl) (k : ℕ) (task : TaskDecl) → AllByRecursion IsLone units → k < length units → Lone task ≡ get_or units k (Lone task)
     → task.body ≡ statements_of (slice_get (flat_map tasks_of_unit units) k)

@@ -1,4 +1,3 @@
-pub mod Records
 pub mod Declared
 pub mod Courses
 pub mod Forms

@@ -8,17 +8,18 @@ use Rattle.task_syntax.specs.declared.statement.Stmt.{Stmt}
 use Rattle.task_syntax.specs.Course.{Store, accesses, readings}
 use Rattle.task_syntax.specs.Expressions.{no_locals}
 use Rattle.task_syntax.specs.Statements.{body}
-use Rattle.coati_board.specs.declared.history.Mark.{Mark}
-use Rattle.coati_board.specs.declared.history.MarkKind.{MarkKind}
-use Rattle.coati_board.specs.declared.history.MarkKind.TheVariants.{Commit}
-use Rattle.coati_board.specs.declared.history.MarkKind.TheVariants as kind
-use Rattle.coati_board.specs.declared.history.Record.{Record}
-use Rattle.coati_board.specs.declared.history.End.{End}
+use Rattle.serial_log.specs.declared.mark.Mark.{Mark}
+use Rattle.serial_log.specs.declared.mark.MarkKind.{MarkKind}
+use Rattle.serial_log.specs.declared.mark.MarkKind.TheVariants.{Boot, Posted, Done, Commit, Abort}
+use Rattle.serial_log.specs.declared.mark.MarkKind.TheVariants as kind
+use Rattle.serial_log.specs.declared.record.Record.{Record}
+use Rattle.serial_log.specs.declared.end.End.{End}
+use Rattle.serial_log.specs.History.{Past}
 use Rattle.coati_board.specs.declared.device.Device.{Device}
 use Rattle.coati_board.specs.FirstForm.{IsFirstForm, IsBody, IsLast, IsExpression}
 use Rattle.coati_board.specs.FirstForm.IsLast.{ending, choice}
 use Rattle.coati_board.specs.Memory.{seen_word}
-use Rattle.coati_board.specs.History.{Past, end_of, end_of_kind}
+use Rattle.coati_board.specs.History.{end_of, end_of_kind}
 use Rattle.coati_board.specs.Tasks.{task_body, course_from}
 use Rattle.coati_board.specs.Fit.{IsFit, HasRoomFor}
 use Rattle.coati_board.specs.Act.{IsAct, IsRunning, Assigns, readings_here}
@@ -44,8 +45,12 @@ end_of_commit [] at r = refl
 end_of_commit (m ∷ ms) at r = ap (λ (o : Option End). end_of_kind m.kind o) (end_of_commit ms at r)
 
 end_behind : (k : MarkKind) (o more : Option End) (e : End) → end_of_kind k o ≡ None → (o ≡ None → more ≡ Some e) → end_of_kind k more ≡ Some e
-end_behind (Commit r) o more e none h = h none
 end_behind (kind.End x) o more e none h = absurd cc
+end_behind (Boot number) o more e none h = h none
+end_behind (Posted posted) o more e none h = h none
+end_behind (Done task) o more e none h = h none
+end_behind (Commit r) o more e none h = h none
+end_behind (Abort aborted) o more e none h = h none
 
 -- an End mark does
 pub end_of_end : (ms : List Mark) (at : ℕ) (e : End) → end_of ms ≡ None → end_of (ms ++ record { at = at; kind = kind.End e } ∷ []) ≡ Some e

@@ -13,7 +13,6 @@ use Rattle.task_syntax.specs.Expressions.{no_locals, expression}
 use Rattle.task_syntax.specs.Statements.{body}
 use Rattle.coati_board.specs.declared.memory.Write.{Write}
 use Rattle.coati_board.specs.declared.memory.Write.TheVariants as write
-use Rattle.coati_board.specs.declared.history.Unit.TheVariants.{Task}
 use Rattle.coati_board.specs.declared.device.Device.{Device}
 use Rattle.coati_board.specs.declared.device.Phase.{Phase}
 use Rattle.coati_board.specs.declared.device.Phase.TheVariants.{Choose, Run, Value, Length, End}
@@ -22,15 +21,19 @@ use Rattle.coati_board.specs.FirstForm.IsLast.{ending, choice}
 use Rattle.coati_board.specs.Memory.{Memory, written, word_at, value_at, logged, logged_word, seen_word, IsNextWrite, IsInRange}
 use Rattle.coati_board.specs.Memory.IsNextWrite.{pair, emptied, place, marker}
 use Rattle.coati_board.specs.StandsFor.{committed_word}
-use Rattle.coati_board.specs.History.{Past, with_commit}
+use Rattle.serial_log.specs.declared.held.Held.{Held}
+use Rattle.serial_log.specs.declared.mark.MarkKind.TheVariants.{Commit}
+use Rattle.serial_log.specs.History.{Past}
+use Rattle.serial_log.specs.Marks.{Entry, entries, accepted_postings}
+use Rattle.coati_board.specs.History.{record_of_task, with_commit}
 use Rattle.coati_board.specs.Tasks.{task_body, course_from}
-use Rattle.task_syntax.specs.Units.{place_after, task_course}
+use Rattle.task_syntax.specs.Units.{place_after, task_course, task_effect}
 use Rattle.coati_board.specs.Fit.{IsFit, IsPhaseOf}
 use Rattle.coati_board.specs.Act.{IsAct, IsRunning, Assigns, value_here, readings_here}
 use Rattle.coati_board.specs.Act.IsAct.{applies, sleeps, starts, replaces, numbers, values, lengthens, ends, places, commits}
-use Rattle.coati_board.specs.SerialRun.{Entry, Stand, entries, opening_stand, after_task, after_entries, IsNext, AreSerial, stand_of}
+use Rattle.serial_log.specs.SerialRun.{Stand, opening_stand, behind_tasks, behind_entries, IsNext, AreSerial, stand_of}
 use Rattle.coati_board.specs.Sound.{HasReached, HasCome, IsAttempt, StandsFor, IsSound}
-use Rattle.coati_board.proofs.Declared.{task_has_body}
+use Rattle.coati_board.proofs.Declared.{task_has_body, task_alone}
 use Rattle.task_syntax.proofs.Chains.{accesses-chain}
 use Rattle.coati_board.proofs.Courses.{pointwise}
 use Rattle.coati_board.proofs.Forms.{expression_reads}
@@ -40,7 +43,7 @@ use Rattle.coati_board.proofs.Fitting.{ending_leads, phase_there, assigned_below
 use Rattle.coati_board.proofs.Logs.{room_for_new}
 use Rattle.coati_board.proofs.Room.{assigned_expression}
 use Rattle.coati_board.proofs.Reaching.{reach_none, reach_value, reach_write, reach_end, reach_same}
-use Rattle.coati_board.proofs.Entries.{entry_of_task, entries_commit, records_commit, after_push, serial_push}
+use Rattle.coati_board.proofs.Entries.{entry_of_task, entries_commit, records_commit, accepted_push, behind_push, serial_push}
 use Rattle.coati_board.proofs.Committing.{StandsSame, commit_stands, committed_clear, place_clear, seen_empty, logged_at}
 
 -- memory that stands for the same stands for the same run
@@ -259,18 +262,23 @@ module _ (p : Program) (old : Device) (form : IsFirstForm p) (f : IsFit p old) (
       let turn : st.place ≡ m.current = sym s.stands.place ∙ place_clear m clear in
       let task : m.current < length (tasks p) = (phase_there p old (End to) f is).0.task in
       let all : accesses (task_course p m.current) st.store ≡ a.come.so_far = a.come.path ∙ append-nil a.come.so_far in
-      let next : IsNext p st entry = record {
-        task = subst (λ t. t < length (tasks p)) (sym turn) task;
-        unit = ap Task (sym turn);
-        tasks_one = refl;
+      let accepted = accepted_postings old.history.marks in
+      let none_more : accepted_postings past.marks ≡ accepted =
+      accepted_push old.history.marks (record { at = at; kind = Commit (record_of_task m.current (length old.history.readings) (length read)) }) refl in
+      let next : IsNext p accepted st entry = record {
+        place = turn;
+        lone = record { there = task; alone = task_alone p m.current form };
+        one_task = refl;
         no_posting = refl;
-        reads = a.come.reads ∙ ap readings (sym all) ∙ ap (λ t. readings (accesses (task_course p t) st.store)) (sym turn);
+        reads = a.come.reads ∙ ap readings (sym all);
       } in
-      let led : stand_of p past ≡ after_task p m.current st.store =
-      ap (λ (xs : List Entry). after_entries p xs (opening_stand p)) es ∙ after_push p old_entries entry (opening_stand p) in
+      let led : stand_of p past ≡ behind_tasks st (task_effect p m.current st.store) =
+      ap (λ (postings : List Held). behind_entries p postings (opening_stand p) (entries past.marks past.readings)) none_more
+      ∙ ap (λ (xs : List Entry). behind_entries p accepted (opening_stand p) xs) es ∙ behind_push p accepted (opening_stand p) old_entries entry in
       rw e (record {
         records = records_commit old.history read m.current at s.records;
-        serial = subst (λ (xs : List Entry). AreSerial p xs (opening_stand p)) (sym es) (serial_push p old_entries entry (opening_stand p) s.serial next);
+        serial = subst (λ (postings : List Held). AreSerial p postings (opening_stand p) (entries past.marks past.readings)) (sym none_more)
+            (subst (λ (xs : List Entry). AreSerial p accepted (opening_stand p) xs) (sym es) (serial_push p accepted (opening_stand p) old_entries entry s.serial next));
         stands = record {
           store = a.come.store ∙ ap (λ (xs : List Access). after xs st.store) (sym all) ∙ ap (λ (x : Stand). x.store) (sym led);
           place = same ∙ sym a.leads ∙ ap place_after (sym a.come.result) ∙ ap (λ (x : Stand). x.place) (sym led);

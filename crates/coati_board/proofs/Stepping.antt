@@ -1,24 +1,29 @@
 -- Each step leaves a board.
-use Rattle.std.proofs.Common.{◌≡◌, ℕ, ◌+◌, ◌-◌, ◌<◌, ◌≤◌, List, length, refl, ap, sym, subst, ◌∙◌, arith, None, Some, inl}
+use Rattle.std.proofs.Common.{◌≡◌, ℕ, ◌+◌, ◌-◌, ◌*◌, ◌<◌, ◌≤◌, List, [], ◌∷◌, ◌++◌, length, refl, ap, sym, subst, ◌∙◌, arith, None, Some, inl}
 use Rattle.std.proofs.lemmas.List.{length-replicate}
+use Rattle.coati_word.specs.declared.reading.Reading.{Reading}
 use Rattle.task_syntax.specs.declared.program.Program.{Program}
 use Rattle.coati_board.specs.declared.device.Device.{Device}
 use Rattle.coati_board.specs.FirstForm.{IsFirstForm}
 use Rattle.task_syntax.specs.Names.{tasks, opening_values}
-use Rattle.coati_board.specs.declared.history.End.{End}
-use Rattle.coati_board.specs.declared.history.MarkKind.TheVariants as kind
-use Rattle.coati_board.specs.History.{Past, end_of, with_mark}
+use Rattle.serial_log.specs.declared.end.End.{End}
+use Rattle.serial_log.specs.declared.mark.Mark.{Mark}
+use Rattle.serial_log.specs.declared.mark.MarkKind.TheVariants as kind
+use Rattle.serial_log.specs.declared.held.Held.{Held}
+use Rattle.serial_log.specs.declared.record.Record.{Record}
+use Rattle.serial_log.specs.History.{Past, HasRecord, readings_in, with_mark}
+use Rattle.serial_log.specs.Marks.{Entry, entries, accepted_postings}
+use Rattle.serial_log.specs.SerialRun.{Stand, behind_entries, opening_stand, AreSerial}
+use Rattle.coati_board.specs.History.{end_of}
 use Rattle.coati_board.specs.Fit.{IsReady}
 use Rattle.coati_board.specs.Act.{IsAct, IsStep}
 use Rattle.coati_board.specs.Act.IsAct.{applies, sleeps, starts, replaces, numbers, values, lengthens, ends, places, commits}
-use Rattle.coati_board.specs.Board.{IsBoard, opened}
-use Rattle.coati_board.specs.declared.history.Record.{Record}
-use Rattle.coati_board.specs.History.{HasRecord, readings_in}
-use Rattle.coati_board.specs.SerialRun.{Entry, Stand, after_entries, opening_stand, AreSerial}
+use Rattle.coati_board.specs.Board.{IsBoard, IsBlankPast, opened}
 use Rattle.coati_board.specs.Sound.{IsSound, IsAttempt}
 use Rattle.coati_board.proofs.Serial.{act_sound}
-use Rattle.coati_board.proofs.Entries.{entries_end, readings_kept}
-use Rattle.coati_board.proofs.Records.{records_push, record_there}
+use Rattle.serial_log.proofs.Kept.{readings_kept}
+use Rattle.serial_log.proofs.Records.{records_push, record_there}
+use Rattle.coati_board.proofs.Entries.{accepted_push, entries_end}
 use Rattle.coati_board.proofs.Fitting.{act_fits}
 use Rattle.coati_board.proofs.Room.{Grows, act_leaves_room, end_of_end}
 use Rattle.coati_board.proofs.Declared.{opening_count, tasks_count}
@@ -76,25 +81,37 @@ step_keeps p limit old new b l open_ s =
       grows = rooms.1;
     })
 
+-- an empty history
+abbrev blank_past : ℕ → ℕ → Past
+blank_past marks readings = record { marks = []; mark_room = marks; readings = []; reading_room = readings }
+
 -- a board that is opened stands for the opening
-opened_sound : (p : Program) (limit : ℕ) → IsSound p (opened p limit)
-opened_sound p limit = record { records = tt; serial = tt; stands = record { store = refl; place = refl }; attempt = λ _. refl }
+opened_sound : (p : Program) (limit marks readings : ℕ) → IsSound p (opened p limit (blank_past marks readings))
+opened_sound p limit marks readings = record { records = tt; serial = tt; stands = record { store = refl; place = refl }; attempt = λ _. refl }
+
+abbrev end_mark : ℕ → End → Mark
+end_mark at e = record { at = at; kind = kind.End e }
 
 -- an End mark changes nothing of what memory stands for
-ended_sound : (p : Program) (d : Device) (at : ℕ) (e : End) → IsSound p d → IsSound p (record d { history = with_mark d.history at (kind.End e) })
+ended_sound : (p : Program) (d : Device) (at : ℕ) (e : End) → IsSound p d → IsSound p (record d { history = with_mark d.history (end_mark at e) })
 ended_sound p d at e s =
     let es = entries_end d.history.marks at e d.history.readings in
-    let run : List Entry → Stand = λ xs. after_entries p xs (opening_stand p) in
+    let none_more : accepted_postings (d.history.marks ++ end_mark at e ∷ []) ≡ accepted_postings d.history.marks = accepted_push d.history.marks (end_mark at e) refl in
+    let now = entries (d.history.marks ++ end_mark at e ∷ []) d.history.readings in
+    let run : List Held → List Entry → Stand = λ postings xs. behind_entries p postings (opening_stand p) xs in
+    let same : run (accepted_postings (d.history.marks ++ end_mark at e ∷ [])) now ≡ run (accepted_postings d.history.marks) (entries d.history.marks d.history.readings) =
+    ap (λ (postings : List Held). run postings now) none_more ∙ ap (λ (xs : List Entry). run (accepted_postings d.history.marks) xs) es in
     record {
-      records = records_push d.history.marks (record { at = at; kind = kind.End e }) (length d.history.readings) s.records tt;
-      serial = subst (λ (xs : List Entry). AreSerial p xs (opening_stand p)) (sym es) s.serial;
-      stands = record { store = s.stands.store ∙ ap (λ (xs : List Entry). (run xs).store) (sym es); place = s.stands.place ∙ ap (λ (xs : List Entry). (run xs).place) (sym es) };
-      attempt = subst (λ (xs : List Entry). IsAttempt p d.memory (run xs).store d.attempt.items d.phase) (sym es) s.attempt;
+      records = records_push d.history.marks (end_mark at e) (length d.history.readings) s.records tt;
+      serial = subst (λ (postings : List Held). AreSerial p postings (opening_stand p) now) (sym none_more)
+          (subst (λ (xs : List Entry). AreSerial p (accepted_postings d.history.marks) (opening_stand p) xs) (sym es) s.serial);
+      stands = record { store = s.stands.store ∙ ap (λ (x : Stand). x.store) (sym same); place = s.stands.place ∙ ap (λ (x : Stand). x.place) (sym same) };
+      attempt = subst (λ (x : Stand). IsAttempt p d.memory x.store d.attempt.items d.phase) (sym same) s.attempt;
     }
 
 -- a board that is opened
-pub opened_board : (p : Program) (limit : ℕ) → IsFirstForm p → limit ≤ 500000 → IsBoard p limit (opened p limit)
-opened_board p limit form l =
+opened_with : (p : Program) (limit marks readings : ℕ) → IsFirstForm p → limit ≤ 500000 → limit + 1 ≤ marks → 2 * limit ≤ readings → IsBoard p limit (opened p limit (blank_past marks readings))
+opened_with p limit marks readings form l some_marks some_readings =
     let n : length (opening_values p) ≡ length p.vars = opening_count p form in
     let some : 0 < length (tasks p) = omega (arith, tasks_count p form, form.some_units) in
     record {
@@ -117,17 +134,24 @@ opened_board p limit form l =
         phase = tt;
         done = omega arith;
       };
-      sound = opened_sound p limit;
+      sound = opened_sound p limit marks readings;
       room = λ _. record { marks = omega arith; attempt = omega arith; records = omega arith; few = omega arith };
     }
 
+pub opened_board : (p : Program) (limit : ℕ) (past : Past) → IsFirstForm p → limit ≤ 500000 → IsBlankPast limit past → IsBoard p limit (opened p limit past)
+opened_board p limit past form l blank =
+    let same : past ≡ blank_past past.mark_room past.reading_room =
+    ap (λ (ms : List Mark). let h : Past = record past { marks = ms } in h) blank.marks
+    ∙ ap (λ (rs : List Reading). let h : Past = record past { marks = []; readings = rs } in h) blank.readings in
+    subst (λ (h : Past). IsBoard p limit (opened p limit h)) (sym same) (opened_with p limit past.mark_room past.reading_room form l blank.mark_room blank.reading_room)
+
 -- a board that is closed
-pub closed_board : (p : Program) (limit : ℕ) (d : Device) (at : ℕ) (e : End) (h : Past) → IsBoard p limit d → end_of d.history.marks ≡ None → h ≡ with_mark d.history at (kind.End e) → IsBoard p limit (record d { history = h })
+pub closed_board : (p : Program) (limit : ℕ) (d : Device) (at : ℕ) (e : End) (h : Past) → IsBoard p limit d → end_of d.history.marks ≡ None → h ≡ with_mark d.history (end_mark at e) → IsBoard p limit (record d { history = h })
 closed_board p limit d at e h b none is = rw is (record {
   form = b.form;
   limited = b.limited;
   time = b.time;
   fit = record { range = b.fit.range; phase = b.fit.phase; done = b.fit.done };
   sound = ended_sound p d at e b.sound;
-  room = λ open_. let some : end_of (with_mark d.history at (kind.End e)).marks ≡ Some e = end_of_end d.history.marks at e none in absurd (cc);
+  room = λ open_. let some : end_of (with_mark d.history (end_mark at e)).marks ≡ Some e = end_of_end d.history.marks at e none in absurd (cc);
 })

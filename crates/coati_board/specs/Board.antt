@@ -8,6 +8,7 @@ use Rattle.coati_board.specs.FirstForm.{IsFirstForm}
 use Rattle.coati_board.specs.Memory.{blank}
 use Rattle.coati_board.specs.History.{end_of}
 use Rattle.coati_board.specs.Fit.{IsFit, HasRoomFor}
+use Rattle.serial_log.specs.History.{Past}
 use Rattle.coati_board.specs.Sound.{IsSound}
 
 pub record Whole : Type 0 where
@@ -19,15 +20,29 @@ pub record Whole : Type 0 where
 abbrev pub executor_steps : Whole → ℕ
 executor_steps board = board.device.clock
 
--- a device on blank memory, with room for so many steps
-abbrev pub opened : Program → ℕ → Device
-opened program limit = record {
+-- a device on blank memory, with this history
+abbrev pub opened : Program → ℕ → Past → Device
+opened program limit past = record {
   memory = blank (opening_values program);
-  history = record { marks = []; mark_room = limit + 1; readings = []; reading_room = 2 * limit };
+  history = past;
   attempt = record { items = []; room = 2 * limit };
   phase = Choose;
   clock = 0;
 }
+
+-- an empty history with room for so many steps
+pub record IsBlankPast (limit : ℕ) (past : Past) : Type 0 where
+  pub marks : past.marks ≡ []
+  pub readings : past.readings ≡ []
+  pub mark_room : limit + 1 ≤ past.mark_room
+  pub reading_room : 2 * limit ≤ past.reading_room
+
+-- a board of a program before its first step
+pub record IsOpened (program : Program) (limit : ℕ) (board : Whole) : Type 0 where
+  pub program_is : board.program ≡ program
+  pub limit_is : board.limit ≡ limit
+  pub past : IsBlankPast limit board.device.history
+  pub device : board.device ≡ opened program limit board.device.history
 
 -- what a board keeps
 pub record IsBoard (program : Program) (limit : ℕ) (d : Device) : Type 0 where

@@ -5,7 +5,6 @@ pub mod History
 pub mod Tasks
 pub mod Fit
 pub mod Act
-pub mod SerialRun
 pub mod Sound
 pub mod Board
 pub mod Example

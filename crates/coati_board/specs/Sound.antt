@@ -10,10 +10,10 @@ use Rattle.coati_board.specs.declared.device.Phase.{Phase}
 use Rattle.coati_board.specs.declared.device.Phase.TheVariants.{Choose, Run, Value, Length, End}
 use Rattle.coati_board.specs.Memory.{Memory, seen_word, word_at, value_at}
 use Rattle.coati_board.specs.StandsFor.{committed_word, place_of}
-use Rattle.coati_board.specs.History.{Past, AreRecordsIn}
+use Rattle.serial_log.specs.History.{Past, AreRecordsIn}
 use Rattle.coati_board.specs.Tasks.{course_from}
 use Rattle.task_syntax.specs.Units.{place_after, task_course}
-use Rattle.coati_board.specs.SerialRun.{SerialRun, stand_of}
+use Rattle.serial_log.specs.SerialRun.{SerialRun, stand_of}
 
 -- a course on a base store has come so far: what is left of it, the words as it sees them, and what it has read
 pub record HasReached (whole : Course Ending) (base : Store) (rest : Course Ending) (seen : Store) (read : List Reading) : Type 0 where

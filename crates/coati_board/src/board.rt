@@ -3,16 +3,16 @@ ghost use mathlib.Core.List.{IsPrefix};
 ghost use Rattle.coati_board.specs.FirstForm.{IsFirstForm};
 ghost use Rattle.coati_board.specs.Memory.{IsIdle};
 ghost use Rattle.coati_board.specs.StandsFor.{committed_word};
-ghost use Rattle.coati_board.specs.declared.history.Record.{Record};
-ghost use Rattle.coati_board.specs.History.{HasRecord, end_of, readings_in, with_mark};
+ghost use Rattle.coati_board.specs.History.{end_of};
 ghost use Rattle.coati_board.specs.Act.{IsStep};
-ghost use Rattle.coati_board.specs.SerialRun.{SerialRun, stand_of};
 ghost use Rattle.coati_board.specs.Sound.{StandsFor};
-ghost use Rattle.coati_board.specs.Board.{opened, executor_steps};
+ghost use Rattle.coati_board.specs.Board.{IsOpened, executor_steps};
+ghost use Rattle.serial_log.specs.declared.record.Record.{Record};
+ghost use Rattle.serial_log.specs.History.{HasRecord, readings_in, with_mark};
+ghost use Rattle.serial_log.specs.SerialRun.{SerialRun, stand_of};
 ghost use Rattle.task_check.specs.Accepted.{IsAccepted};
 
 use crate::device::{Device, Phase};
-use crate::history::{End, History, Mark, MarkKind};
 use crate::memory::{COMMITTING, NonvolatileMemory};
 use crate::names::opening;
 use crate::readings::Readings;
@@ -20,6 +20,7 @@ use crate::steps::advance;
 use crate::task_log::load;
 use coati_word::OutOfMemory;
 use coati_word::limits::HALT;
+use serial_log::{End, History, Mark, MarkKind};
 use std::alloc::Global;
 use std::marker::Model;
 use task_check::Checked;
@@ -55,12 +56,13 @@ impl Board {
     pub fn open(alloc: Global, checked: Checked, limit: u32) -> Result<Board, OutOfMemory>
         requires form { IsFirstForm checked }
         requires limit { limit ≤ 500000 }
-        ensures { IfOk result (λ board. board ≡ record { program = checked; limit = limit; device = opened checked limit }) }
+        ensures { IfOk result (IsOpened checked limit) }
     {
         let steps = limit as usize;
         let variables = opening(alloc, checked.program()).map_err(|_| OutOfMemory)?;
         let memory = NonvolatileMemory::blank(alloc, variables).map_err(|_| OutOfMemory)?;
-        let history = History::with_room(alloc, steps + 1, 2 * steps).map_err(|_| OutOfMemory)?;
+        let mut history = History::new(alloc);
+        history.reserve(limit + 1, 2 * limit)?;
         let attempt = Readings::with_room(alloc, 2 * steps).map_err(|_| OutOfMemory)?;
         let device = Device {
             memory,
@@ -97,7 +99,7 @@ impl Board {
         requires open { end_of self.old.device.history.marks ≡ None }
         ensures idle { (result ≡ End.Idle) ↔ IsIdle self.old.device.memory }
         ensures closed { end_of self.new.device.history.marks ≡ Some result }
-        ensures marked { self.new ≡ record self.old { device = record self.old.device { history = with_mark self.old.device.history self.old.device.clock (MarkKind.End result) } } }
+        ensures marked { self.new ≡ record self.old { device = record self.old.device { history = with_mark self.old.device.history (record { at = self.old.device.clock; kind = MarkKind.End result }) } } }
     {
         let end = if self.is_idle() {
             End::Idle

@@ -1,6 +1,6 @@
-use crate::history::History;
 use crate::memory::NonvolatileMemory;
 use crate::readings::Readings;
+use serial_log::History;
 
 /// What the device is about. A cut of power would make it `Choose`.
 #[derive(Clone, Copy, Debug, PartialEq, Eq)]

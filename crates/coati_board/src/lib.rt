@@ -2,9 +2,9 @@
 #![tactic(auto)]
 
 mod board;
+mod commit;
 mod device;
 mod expression;
-mod history;
 mod memory;
 mod names;
 mod readings;
@@ -13,4 +13,3 @@ mod task_log;
 
 pub use board::Board;
 pub use device::{Device, Phase};
-pub use history::{End, History, Mark, MarkKind, Record, Unit};

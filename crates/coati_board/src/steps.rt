@@ -10,6 +10,7 @@ ghost use Rattle.task_syntax.specs.Units.{place_after};
 ghost use Rattle.coati_board.specs.Fit.{IsInRangeOf, IsReady, IsAtTask};
 ghost use Rattle.coati_board.specs.Act.{IsAct, IsRunning, IsStep};
 
+use crate::commit::commit;
 use crate::device::{Device, Phase};
 use crate::expression::evaluate;
 use crate::memory::{COMMITTING, NonvolatileMemory, Write};
@@ -240,9 +241,12 @@ fn end(program: &Program, device: &mut Device, place: u16)
     } else {
         let task = device.memory.current();
         device.memory.put(Write::Mark(COMMITTING));
-        device
-            .history
-            .commit(device.attempt.as_slice(), task, device.clock + 1);
+        commit(
+            &mut device.history,
+            device.attempt.as_slice(),
+            task,
+            device.clock + 1,
+        );
         device.attempt.clear();
         device.phase = Phase::Choose;
     }

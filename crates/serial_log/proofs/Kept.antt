@@ -14,7 +14,8 @@ use Rattle.serial_log.specs.Standing.{Standing, after_mark}
 use Rattle.serial_log.specs.Postings.{Terms}
 use Rattle.serial_log.specs.Legal.{KeepsSerial, IsLegalMark}
 
-readings_kept : (all more : List Reading) (r : Record) → r.reads_from + r.reads_len ≤ length all → readings_in (all ++ more) r ≡ readings_in all r
+-- a record that is there keeps its readings
+pub readings_kept : (all more : List Reading) (r : Record) → r.reads_from + r.reads_len ≤ length all → readings_in (all ++ more) r ≡ readings_in all r
 readings_kept all more r within = slice_kept all more r.reads_from r.reads_len within
   where
     slice_kept : (xs ys : List Reading) (from count : ℕ) → from + count ≤ length xs → take count (drop from (xs ++ ys)) ≡ take count (drop from xs)

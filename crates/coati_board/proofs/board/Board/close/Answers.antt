@@ -1,5 +1,6 @@
 use Rattle.std.proofs.Common.{◌≡◌, ap, ◌∙◌, None}
-use Rattle.coati_board.specs.History.{Past, end_of}
+use Rattle.serial_log.specs.History.{Past}
+use Rattle.coati_board.specs.History.{end_of}
 use Rattle.coati_board.specs.Board.{Whole}
 use Rattle.coati_board.proofs.Room.{end_of_end}
 use Rattle.coati_board.proofs.Stepping.{closed_board}

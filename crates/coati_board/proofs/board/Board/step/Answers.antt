@@ -1,5 +1,6 @@
 use Rattle.std.proofs.Common.{◌≡◌, ◌<◌, ap, ◌∙◌, sym, subst, None, arith}
-use Rattle.coati_board.specs.History.{Past, HasRecord, end_of, readings_in}
+use Rattle.serial_log.specs.History.{Past, HasRecord, readings_in}
+use Rattle.coati_board.specs.History.{end_of}
 use Rattle.coati_board.specs.Board.{Whole}
 use Rattle.coati_board.proofs.Stepping.{Stepped, step_keeps, old_readings}
 use Rattle.coati_board.proofs.board.Board.step.Goals as goal

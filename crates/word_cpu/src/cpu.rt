@@ -41,14 +41,15 @@ impl Cpu {
         }
     }
 
-    /// One machine step on the code that the machine was started on. It makes the move of the instruction at the place, or a
-    /// part of it where that is a store. No memory is taken.
+    /// One machine step on the code that the machine was started on. It makes the move of the
+    /// instruction at the place, or a part of it where that is a store. No memory is taken.
     pub fn step<V: View>(&mut self, code: &Code, view: &mut V) -> Turn
         requires exists { HasBody code.now self.old.body }
         // A word's number is a u16.
         requires few { length (V.meaning.words view.old) ≤ 2 ^ 16 }
         requires runs { CanStep code.now self.old (length (V.meaning.words view.old)) }
-        requires begun { OfTheMove code.now self.old (IsBegun (V.meaning.begun view.old) self.old.part) }
+        requires begun { OfTheMove code.now self.old
+            (IsBegun (V.meaning.begun view.old) self.old.part) }
         ensures step { IsStep V.meaning code.now self.old self.new view.old view.new result }
         ensures words { OfTheMove code.now self.old
             (StepsOnWords V.meaning self.old self.new view.old view.new result) }
@@ -63,7 +64,8 @@ impl Cpu {
         requires few { length (V.meaning.words view.old) ≤ 2 ^ 16 }
         requires in_range { IsEncodable instr }
         requires can_run { CanRun (length (V.meaning.words view.old)) instr (state_of self.old) }
-        requires begun { IsBegun (V.meaning.begun view.old) self.old.part (move_of instr (state_of self.old)) }
+        requires begun { IsBegun (V.meaning.begun view.old) self.old.part
+            (move_of instr (state_of self.old)) }
         ensures body { self.new.body ≡ self.old.body }
         ensures makes { Makes V.meaning self.old self.new view.old view.new result
             (move_of instr (state_of self.old)) }
@@ -148,7 +150,8 @@ impl Cpu {
         requires place { self.old.place < 2 ^ 62 }
         requires operand { 0 < length self.old.operands }
         requires word { word < length (V.meaning.words view.old) }
-        requires begun { 0 < self.old.part → V.meaning.begun view.old word (top self.old.operands) self.old.part }
+        requires begun { 0 < self.old.part →
+            V.meaning.begun view.old word (top self.old.operands) self.old.part }
         ensures body { self.new.body ≡ self.old.body }
         ensures stores { StoresPart V.meaning word (top self.old.operands)
             (behind 2 (below self.old.operands) (state_of self.old))
@@ -166,7 +169,8 @@ impl Cpu {
         requires place { self.old.place < 2 ^ 62 }
         requires operands { 1 < length self.old.operands }
         requires word { word < length (V.meaning.words view.old) }
-        requires begun { 0 < self.old.part → V.meaning.begun view.old word (top self.old.operands) self.old.part }
+        requires begun { 0 < self.old.part →
+            V.meaning.begun view.old word (top self.old.operands) self.old.part }
         ensures body { self.new.body ≡ self.old.body }
         ensures stores { StoresPart V.meaning word (top self.old.operands)
             (behind 3 (below (below self.old.operands)) (state_of self.old))
@@ -181,11 +185,13 @@ impl Cpu {
         Turn::Went(None)
     }
 
-    // The next part of the store of the last operand in a word. It answers true where it was the last.
+    // The next part of the store of the last operand in a word. It answers true where it was the
+    // last.
     fn store_part<V: View>(&mut self, view: &mut V, word: u16) -> bool
         requires operand { 0 < length self.old.operands }
         requires word { word < length (V.meaning.words view.old) }
-        requires begun { 0 < self.old.part → V.meaning.begun view.old word (top self.old.operands) self.old.part }
+        requires begun { 0 < self.old.part →
+            V.meaning.begun view.old word (top self.old.operands) self.old.part }
         ensures body { self.new.body ≡ self.old.body }
         ensures last { OnTrue result (HasStored V.meaning word (top self.old.operands)
             (state_of self.old) self.old self.new view.old view.new) }
@@ -205,7 +211,8 @@ impl Cpu {
 
 // The instruction that starts at a place.
 fn instruction_at(words: &[u16], place: usize) -> Instr
-    requires { (instr : Instruction) × (decoded (drop place words.now) ≡ Some (instr, width instr)) }
+    requires { (instr : Instruction)
+        × (decoded (drop place words.now) ≡ Some (instr, width instr)) }
     ensures starts { decoded (drop place words.now) ≡ Some (result, width result) }
     ensures in_range { IsEncodable result }
     ensures inside { place < length words.now }

@@ -1,4 +1,5 @@
-//! What follows from the definitions: each function's contract is a law, and its body does nothing.
+//! What follows from the definitions: each function's contract is a law, and its body does
+//! nothing.
 
 ghost use Rattle.word_cpu.specs.OnCourse.{MachinesOnCourseCanStep, StepsGoAlongTheCourse};
 ghost use Rattle.word_cpu.specs.Reached.{MachinesKeepToTheCourse};
@@ -8,7 +9,8 @@ use crate::View;
 use task_syntax::laws::{accesses_join_up, courses_under_way_go_on};
 use word_code::laws::following_goes_on;
 
-/// A machine that is on a course can make a step, and the step goes along the course, over any view.
+/// Over any view, a machine that is on a course can make a step, and the step goes along the
+/// course.
 pub fn steps_go_along_the_course<V: View>()
     ensures can_step { MachinesOnCourseCanStep V.meaning }
     ensures steps { StepsGoAlongTheCourse V.meaning }

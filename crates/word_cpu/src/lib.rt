@@ -1,4 +1,5 @@
-//! The word machine: it runs the code of a body on a view of the variable words, one machine step a call.
+//! The word machine: it runs the code of a body on a view of the variable words, one machine step
+//! a call.
 #![tactic(auto)]
 
 mod cpu;

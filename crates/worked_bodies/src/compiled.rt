@@ -82,13 +82,16 @@ impl Compiled {
         params: &[u16],
         view: &mut V,
     ) -> Result<Ran, OutOfMemory>
-        requires words { length (V.words view.old) ≡ word_count self.now.checked.vars }
+        requires words { length (V.meaning.words view.old) ≡ word_count self.now.checked.vars }
         requires body { HasBodyFor self.now.checked body params.now }
         requires few { length params.now ≤ 4 }
-        ensures told { IfOk result (λ ran. TellsBody self.now.checked body params.now (V.words view.old) (V.words view.new) ran.readings.items ran.ending) }
-        ensures ends { IfOk result (λ ran. EndsBy V.words V.begun V.loaded V.stored (program_code self.now.checked) body params.now view.old ran.steps ran.readings.items ran.ending view.new) }
+        ensures told { IfOk result (λ ran. TellsBody self.now.checked body params.now
+            (V.meaning.words view.old) (V.meaning.words view.new) ran.readings.items ran.ending) }
+        ensures ends { IfOk result (λ ran. EndsBy V.meaning (program_code self.now.checked) body params.now
+            view.old ran.steps ran.readings.items ran.ending view.new) }
         ensures in_time { IfOk result (λ ran. ran.steps ≤ cost_of self.now.checked body) }
-        ensures words { OnOk result (length (V.words view.new) ≡ length (V.words view.old)) }
+        ensures words { OnOk result
+            (length (V.meaning.words view.new) ≡ length (V.meaning.words view.old)) }
     {
         let _program = self.checked.program();
         accepted_bodies_fit();

@@ -35,12 +35,16 @@ pub(crate) fn run_within<V: View>(
 ) -> Result<Ran, OutOfMemory>
     requires exists { HasBody code.now body }
     requires few { length params.now ≤ 4 }
-    requires words { length (V.words view.old) ≤ 256 }
-    requires computes { (course : Course Ending) × Computes (body_words code.now body) (length (V.words view.old)) cost params.now course }
-    ensures told { IfOk result (λ ran. TellsWhatIsComputed (body_words code.now body) cost params.now (V.words view.old) (V.words view.new) ran.readings.items ran.ending) }
-    ensures ends { IfOk result (λ ran. EndsBy V.words V.begun V.loaded V.stored code.now body params.now view.old ran.steps ran.readings.items ran.ending view.new) }
+    requires words { length (V.meaning.words view.old) ≤ 256 }
+    requires computes { (course : Course Ending)
+        × Computes (body_words code.now body) (length (V.meaning.words view.old)) cost params.now course }
+    ensures told { IfOk result (λ ran. TellsWhatIsComputed (body_words code.now body) cost params.now
+        (V.meaning.words view.old) (V.meaning.words view.new) ran.readings.items ran.ending) }
+    ensures ends { IfOk result (λ ran. EndsBy V.meaning code.now body params.now view.old
+        ran.steps ran.readings.items ran.ending view.new) }
     ensures in_time { IfOk result (λ ran. ran.steps ≤ cost) }
-    ensures words { OnOk result (length (V.words view.new) ≡ length (V.words view.old)) }
+    ensures words { OnOk result
+        (length (V.meaning.words view.new) ≡ length (V.meaning.words view.old)) }
 {
     machines_keep_to_the_course::<V>();
     let mut cpu = Cpu::start(code, body, params);

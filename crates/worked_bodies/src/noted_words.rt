@@ -13,13 +13,12 @@ pub struct NotedWords {
 }
 
 impl View for NotedWords {
-    ghost words = { λ v. v.words.items };
-
-    ghost begun = { λ v word value part. IsNoted v.word v.value word value part };
-
-    ghost loaded = { λ old word new. new.loads ≡ min (old.loads + 1) 4294967295 };
-
-    ghost stored = { λ old word value part new done. new.loads ≡ old.loads };
+    ghost meaning = { record {
+      words = λ v. v.words.items;
+      begun = λ v word value part. IsNoted v.word v.value word value part;
+      loaded = λ old word new. new.loads ≡ min (old.loads + 1) 4294967295;
+      stored = λ old word value part new is_last. new.loads ≡ old.loads;
+    } };
 
     fn load(&mut self, word: u16) -> u16 {
         self.loads = self.loads.saturating_add(1);

@@ -9,13 +9,13 @@ pub struct PlainWords {
 }
 
 impl View for PlainWords {
-    ghost words = { λ v. v.words.items };
-
-    ghost begun = { λ v word value part. part ≡ 0 };
-
-    ghost loaded = { λ old word new. new ≡ old };
-
-    ghost stored = { λ old word value part new done. (done ≡ true) × (new.words.items ≡ slice_set old.words.items word value) };
+    ghost meaning = { record {
+      words = λ v. v.words.items;
+      begun = λ v word value part. part ≡ 0;
+      loaded = λ old word new. new ≡ old;
+      stored = λ old word value part new is_last.
+          (is_last ≡ true) × (new.words.items ≡ slice_set old.words.items word value);
+    } };
 
     fn load(&mut self, word: u16) -> u16 {
         self.words[word as usize]

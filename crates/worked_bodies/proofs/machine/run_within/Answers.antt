@@ -14,7 +14,7 @@ use Rattle.worked_bodies.proofs.machine.run_within.Goals as goal
 pub loop-spent-init : goal.loop-spent-init
 loop-spent-init g c = (
   [],
-  subst (λ (read : List Reading). Comes g.V.View.words g.V.View.begun g.V.View.loaded g.V.View.stored c.args.code.now c.args.body c.args.params.now c.args.view.now 0 [] read c.start-cpu.result c.args.view.now)
+  subst (λ (read : List Reading). Comes g.V.View.meaning c.args.code.now c.args.body c.args.params.now c.args.view.now 0 [] read c.start-cpu.result c.args.view.now)
       (sym c.new-readings.ensures.items) (Comes.starts c.start-cpu.result c.start-cpu.ensures),
 )
 
@@ -28,7 +28,7 @@ pub step-turn-requires-clause-few : goal.step-turn-requires-clause-few
 step-turn-requires-clause-few g c =
     let come = c.loop-spent.invariant in
     let here = c.machines_keep_to_the_course.ensures c.args.code.now c.args.cost c.requires.computes.0 c.args.body c.args.params.now c.args.view.now c.requires.computes.1 c.loop-spent.spent come.0 c.loop-spent.readings.items c.loop-spent.cpu c.loop-spent.view come.1 in
-    let most : length (g.V.View.words c.loop-spent.view) ≤ 256 = subst (λ (n : ℕ). n ≤ 256) (sym here.count) c.requires.words in
+    let most : length (g.V.View.meaning.words c.loop-spent.view) ≤ 256 = subst (λ (n : ℕ). n ≤ 256) (sym here.count) c.requires.words in
     omega (arith, most)
 
 pub step-turn-requires-clause-runs : goal.step-turn-requires-clause-runs
@@ -53,14 +53,14 @@ returns-in-Some-clause-ends g c =
       before = c.loop-spent.cpu;
       last = c.step-turn.new.self;
       now = c.loop-spent.view;
-      comes = subst (λ (read : List Reading). Comes g.V.View.words g.V.View.begun g.V.View.loaded g.V.View.stored c.args.code.now c.args.body c.args.params.now c.args.view.now c.loop-spent.spent come.0 read c.loop-spent.cpu c.loop-spent.view) (sym no_more) come.1;
-      ends = subst (λ (turn : Turn). IsStep g.V.View.words g.V.View.begun g.V.View.loaded g.V.View.stored c.args.code.now c.loop-spent.cpu c.step-turn.new.self c.loop-spent.view c.step-turn.new.view turn) ended c.step-turn.ensures.step;
+      comes = subst (λ (read : List Reading). Comes g.V.View.meaning c.args.code.now c.args.body c.args.params.now c.args.view.now c.loop-spent.spent come.0 read c.loop-spent.cpu c.loop-spent.view) (sym no_more) come.1;
+      ends = subst (λ (turn : Turn). IsStep g.V.View.meaning c.args.code.now c.loop-spent.cpu c.step-turn.new.self c.loop-spent.view c.step-turn.new.view turn) ended c.step-turn.ensures.step;
       steps_are = omega arith;
     }
 
 pub returns-in-Some-clause-told : goal.returns-in-Some-clause-told
 returns-in-Some-clause-told g c course computes =
-    tells_at_its_end g.V.View.words g.V.View.begun g.V.View.loaded g.V.View.stored c.args.code.now c.args.cost course c.args.body c.args.params.now c.args.view.now
+    tells_at_its_end g.V.View.meaning c.args.code.now c.args.cost course c.args.body c.args.params.now c.args.view.now
     (c.loop-spent.spent + 1) c.keep.new.readings.items c.in-Some.ending c.step-turn.new.view c.machines_keep_to_the_course.ensures computes (returns-in-Some-clause-ends g c)
 
 pub returns-in-Some-clause-words : goal.returns-in-Some-clause-words
@@ -71,7 +71,7 @@ loop-spent-preserved g c =
     let come = c.loop-spent.invariant in
     let here = c.machines_keep_to_the_course.ensures c.args.code.now c.args.cost c.requires.computes.0 c.args.body c.args.params.now c.args.view.now c.requires.computes.1 c.loop-spent.spent come.0 c.loop-spent.readings.items c.loop-spent.cpu c.loop-spent.view come.1 in
     let goes_on : HasNotEnded c.step-turn.result = subst (λ (end : Option Ending). IfNone end (HasNotEnded c.step-turn.result)) c.in_default.is c.in_ok-ending.ensures.goes_on in
-    comes_on g.V.View.words g.V.View.begun g.V.View.loaded g.V.View.stored c.args.code.now c.args.body c.args.params.now c.args.view.now c.loop-spent.spent
+    comes_on g.V.View.meaning c.args.code.now c.args.body c.args.params.now c.args.view.now c.loop-spent.spent
     c.loop-spent.readings.items c.keep.new.readings.items c.loop-spent.cpu c.step-turn.new.self c.loop-spent.view c.step-turn.new.view c.step-turn.result
     come here.can_step c.step-turn.ensures.step goes_on c.in_ok-ending.ensures.read
 

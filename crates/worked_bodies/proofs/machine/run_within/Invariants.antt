@@ -5,4 +5,4 @@ use Rattle.worked_bodies.proofs.machine.run_within.Given as goal
 
 abbrev pub invariant-loop-spent : goal.invariant-loop-spent
 invariant-loop-spent g l =
-    (done : List Access) × Comes g.V.View.words g.V.View.begun g.V.View.loaded g.V.View.stored l.code l.fn.body l.params l.fn.view l.spent done l.readings.items l.cpu l.view
+    (done : List Access) × Comes g.V.View.meaning l.code l.fn.body l.params l.fn.view l.spent done l.readings.items l.cpu l.view

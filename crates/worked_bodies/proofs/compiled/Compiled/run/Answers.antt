@@ -21,7 +21,7 @@ run_within-requires-clause-computes g c = (
   course_on c.args.self.now.checked c.requires.body.body.params c.requires.body.body.statements c.args.params.now,
   computes_there c.fitting_bodies_compute_their_course.ensures.programs c.args.self.now.checked
       (c.accepted_bodies_fit.ensures.each c.args.self.now.checked c.program-program.ensures.accepted)
-      c.args.self.now.code c.args.body c.args.params.now c.requires.body.body c.body_cost-cost.result (length (g.V.View.words c.args.view.now))
+      c.args.self.now.code c.args.body c.args.params.now c.requires.body.body c.body_cost-cost.result (length (g.V.View.meaning.words c.args.view.now))
       c.args.self.now.is_code c.body_cost-cost.ensures.cost c.requires.words c.requires.body.is_body c.requires.body.one_each,
 )
 
@@ -32,12 +32,12 @@ returns-clause-told g c =
     told (course_on c.args.self.now.checked body.params body.statements c.args.params.now)
     (computes_there c.fitting_bodies_compute_their_course.ensures.programs c.args.self.now.checked
     (c.accepted_bodies_fit.ensures.each c.args.self.now.checked c.program-program.ensures.accepted)
-    c.args.self.now.code c.args.body c.args.params.now body c.body_cost-cost.result (length (g.V.View.words c.args.view.now))
+    c.args.self.now.code c.args.body c.args.params.now body c.body_cost-cost.result (length (g.V.View.meaning.words c.args.view.now))
     c.args.self.now.is_code c.body_cost-cost.ensures.cost c.requires.words is
     (same_params c.args.self.now.checked c.args.body c.args.params.now body c.requires.body is)))
     c.run_within.ensures.told
 
 pub returns-clause-ends : goal.returns-clause-ends
 returns-clause-ends g c =
-    subst (λ (code : Bodies). IfOk c.run_within.result (λ ran. EndsBy g.V.View.words g.V.View.begun g.V.View.loaded g.V.View.stored code c.args.body c.args.params.now c.args.view.now ran.steps ran.readings.items ran.ending c.run_within.new.view))
+    subst (λ (code : Bodies). IfOk c.run_within.result (λ ran. EndsBy g.V.View.meaning code c.args.body c.args.params.now c.args.view.now ran.steps ran.readings.items ran.ending c.run_within.new.view))
     c.args.self.now.is_code c.run_within.ensures.ends

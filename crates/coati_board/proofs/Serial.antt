@@ -32,7 +32,7 @@ use Rattle.coati_board.specs.Fit.{IsFit, IsPhaseOf}
 use Rattle.coati_board.specs.Act.{IsAct, IsRunning, Assigns, value_here, readings_here}
 use Rattle.coati_board.specs.Act.IsAct.{applies, sleeps, starts, replaces, numbers, values, lengthens, ends, places, commits}
 use Rattle.serial_log.specs.SerialRun.{Stand, opening_stand, behind_tasks, behind_entries, IsNext, AreSerial, stand_of}
-use Rattle.coati_board.specs.Sound.{HasReached, HasCome, IsAttempt, StandsFor, IsSound}
+use Rattle.coati_board.specs.Sound.{HasComeTo, HasCome, IsAttempt, StandsFor, IsSound}
 use Rattle.coati_board.proofs.Declared.{task_has_body, task_alone}
 use Rattle.task_syntax.proofs.Chains.{accesses-chain}
 use Rattle.coati_board.proofs.Courses.{pointwise}
@@ -42,6 +42,7 @@ use Rattle.coati_board.proofs.Ranges.{logged_word_behind, logged_value_behind}
 use Rattle.coati_board.proofs.Fitting.{ending_leads, phase_there, assigned_below}
 use Rattle.coati_board.proofs.Logs.{room_for_new}
 use Rattle.coati_board.proofs.Room.{assigned_expression}
+use Rattle.task_syntax.proofs.UnderWay.{goes-on}
 use Rattle.coati_board.proofs.Reaching.{reach_none, reach_value, reach_write, reach_end, reach_same}
 use Rattle.coati_board.proofs.Entries.{entry_of_task, entries_commit, records_commit, accepted_push, behind_push, serial_push}
 use Rattle.coati_board.proofs.Committing.{StandsSame, commit_stands, committed_clear, place_clear, seen_empty, logged_at}
@@ -135,7 +136,7 @@ past_value p d at word e form f s r a =
     let base = (stand_of p d.history).store in
     let seen = seen_word d.memory in
     let next : ℕ → Course Ending = λ value. Course.writes word value (course_from p d.memory.current (at + 1)) in
-    let here : HasReached whole base (chain (expression p e no_locals) next) seen d.attempt.items =
+    let here : HasComeTo whole base (chain (expression p e no_locals) next) seen d.attempt.items =
     reach_same whole base (course_from p d.memory.current at) (chain (expression p e no_locals) next) seen seen d.attempt.items (assignment_left p d at word e a) refl (attempt_there p d (Run at) s r.phase) in
     reach_value whole base (expression p e no_locals) next seen d.attempt.items here ((expression_reads p e (assigned_expression p d at word e form f r a)).keeps seen)
 
@@ -261,7 +262,8 @@ module _ (p : Program) (old : Device) (form : IsFirstForm p) (f : IsFit p old) (
       let es : entries past.marks past.readings ≡ old_entries ++ entry ∷ [] = entries_commit old.history read m.current at s.records in
       let turn : st.place ≡ m.current = sym s.stands.place ∙ place_clear m clear in
       let task : m.current < length (tasks p) = (phase_there p old (End to) f is).0.task in
-      let all : accesses (task_course p m.current) st.store ≡ a.come.so_far = a.come.path ∙ append-nil a.come.so_far in
+      let come = goes-on (task_course p m.current) st.store a.come.so_far (Course.ends a.how) a.come.reached in
+      let all : accesses (task_course p m.current) st.store ≡ a.come.so_far = come.path ∙ append-nil a.come.so_far in
       let accepted = accepted_postings old.history.marks in
       let none_more : accepted_postings past.marks ≡ accepted =
       accepted_push old.history.marks (record { at = at; kind = Commit (record_of_task m.current (length old.history.readings) (length read)) }) refl in
@@ -281,7 +283,7 @@ module _ (p : Program) (old : Device) (form : IsFirstForm p) (f : IsFit p old) (
             (subst (λ (xs : List Entry). AreSerial p accepted (opening_stand p) xs) (sym es) (serial_push p accepted (opening_stand p) old_entries entry s.serial next));
         stands = record {
           store = a.come.store ∙ ap (λ (xs : List Access). after xs st.store) (sym all) ∙ ap (λ (x : Stand). x.store) (sym led);
-          place = same ∙ sym a.leads ∙ ap place_after (sym a.come.result) ∙ ap (λ (x : Stand). x.place) (sym led);
+          place = same ∙ sym a.leads ∙ ap place_after (sym come.result) ∙ ap (λ (x : Stand). x.place) (sym led);
         };
         attempt = λ z. absurd (omega arith);
       })

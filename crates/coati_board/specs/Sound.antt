@@ -1,10 +1,11 @@
 -- What a board keeps: its history is a serial run, memory stands for where that leads, and the attempt under way is a
 -- part of the running task's course on the committed store.
-use Rattle.std.specs.Prelude.{ℕ, ◌+◌, ◌≡◌, List, ◌++◌, length}
+use Rattle.std.specs.Prelude.{ℕ, ◌+◌, ◌≡◌, List, length}
 use Rattle.coati_word.specs.declared.ending.Ending.{Ending}
 use Rattle.coati_word.specs.declared.reading.Reading.{Reading}
 use Rattle.task_syntax.specs.declared.program.Program.{Program}
-use Rattle.task_syntax.specs.Course.{Course, Store, Access, accesses, answer, after, readings}
+use Rattle.task_syntax.specs.Course.{Course, Store, Access, after, readings}
+use Rattle.task_syntax.specs.UnderWay.{HasReached}
 use Rattle.coati_board.specs.declared.device.Device.{Device}
 use Rattle.coati_board.specs.declared.device.Phase.{Phase}
 use Rattle.coati_board.specs.declared.device.Phase.TheVariants.{Choose, Run, Value, Length, End}
@@ -16,16 +17,15 @@ use Rattle.task_syntax.specs.Units.{place_after, task_course}
 use Rattle.serial_log.specs.SerialRun.{SerialRun, stand_of}
 
 -- a course on a base store has come so far: what is left of it, the words as it sees them, and what it has read
-pub record HasReached (whole : Course Ending) (base : Store) (rest : Course Ending) (seen : Store) (read : List Reading) : Type 0 where
+pub record HasComeTo (whole : Course Ending) (base : Store) (rest : Course Ending) (seen : Store) (read : List Reading) : Type 0 where
   pub so_far : List Access
+  pub reached : HasReached whole base so_far rest
   pub store : seen ≡ after so_far base
-  pub path : accesses whole base ≡ so_far ++ accesses rest (after so_far base)
-  pub result : answer whole base ≡ answer rest (after so_far base)
   pub reads : read ≡ readings so_far
 
 -- the course of the task of the place has come so far, as the log and the readings say
 abbrev pub HasCome : Program → Memory → Store → List Reading → Course Ending → Type 0
-HasCome program m base read rest = HasReached (task_course program m.current) base rest (seen_word m) read
+HasCome program m base read rest = HasComeTo (task_course program m.current) base rest (seen_word m) read
 
 -- it has come to its end
 pub record HasEnded (program : Program) (m : Memory) (base : Store) (read : List Reading) (place : ℕ) : Type 0 where

@@ -56,6 +56,17 @@ fn pieces_are_joined(rt: HostRuntime) -> Result<(), Fail> {
     Ok(())
 }
 
+// No contract of std tells when a reader succeeds, so no clause of the adapter refuses one that
+// fails at the end.
+#[test]
+fn the_end_of_a_reader_is_no_failure(rt: HostRuntime) {
+    let mut source = StdSource::new(b"text".as_slice());
+    let mut buf = [0; 3];
+    for wanted in [3, 1, 0, 0] {
+        assert_eq!(rt; source.read(&mut buf), Ok(wanted));
+    }
+}
+
 #[test]
 fn sinks_take_what_they_have_room_for(rt: HostRuntime) -> Result<(), Fail> {
     let text = vec![in rt.alloc(); b'a'; 25]?;

@@ -1,2 +1,7 @@
 pub mod Cuts
+pub mod Forms
+pub mod Limits
+pub mod LineCounts
 pub mod Numbers
+pub mod Openings
+pub mod Refusals

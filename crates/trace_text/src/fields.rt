@@ -1,4 +1,4 @@
-ghost use Rattle.std.specs.Prelude.{◌≡◌, ◌≤◌, [], ◌∷◌, length};
+ghost use Rattle.std.specs.Prelude.{◌≡◌, ◌≤◌, [], ◌∷◌, bytes_eq, codes, length};
 ghost use Rattle.std.specs.Iterator.{YieldsFirstBy, item_count};
 ghost use Rattle.std.specs.List.{position_or_len};
 ghost use Rattle.std.specs.Option.{option_map_or};
@@ -24,11 +24,13 @@ impl<'a> Model for Fields<'a> {
 }
 
 impl<'a> Fields<'a> {
-    /// The fields of this line.
-    pub(crate) fn of(line: &'a [u8]) -> Fields<'a>
-        ensures { result ≡ fields_of line.now }
+    /// The fields of this line behind its first word.
+    pub(crate) fn behind_first_word(line: &'a [u8]) -> Fields<'a>
+        ensures { fields_of line.now ≡ first_word line.now ∷ result }
     {
-        Fields { rest: Some(line) }
+        Fields {
+            rest: behind_first_word(line),
+        }
     }
 }
 
@@ -63,6 +65,13 @@ fn behind_first_word(line: &[u8]) -> Option<&[u8]>
     } else {
         None
     }
+}
+
+/// Whether the first word is `limit`.
+pub(crate) fn begins_with_limit(line: &[u8]) -> bool
+    ensures { result ≡ bytes_eq (first_word line.now) (codes "limit") }
+{
+    first_word(line) == b"limit".as_slice()
 }
 
 /// How many bytes stand before the first space.

@@ -7,7 +7,7 @@ ghost use Rattle.trace_text.specs.Reading.{line_reading, statement_reading, post
 ghost use Rattle.trace_text.specs.Trace.{is_within, last_time};
 
 use crate::TraceFault;
-use crate::fields::Fields;
+use crate::fields::{Fields, begins_with_limit};
 use crate::statement::{Statement, limit_in, statement_in};
 use coati_word::OutOfMemory;
 use coati_word::limits::{EXECUTOR_STEPS, MACHINE_STEPS, POSTINGS, POWER_PERIODS};
@@ -25,12 +25,10 @@ pub(crate) fn with_limit(
     ensures read { IsAnswer result (line_reading checked.now number None line.now) }
     ensures within { IfOk result (λ script. is_within checked.now script ≡ true) }
 {
-    let mut fields = Fields::of(line);
-    match fields.next() {
-        Some(b"limit") => {}
-        _ => return Err(TraceFault::NoLimit),
+    if !begins_with_limit(line) {
+        return Err(TraceFault::NoLimit);
     }
-    match limit_in(&mut fields) {
+    match limit_in(&mut Fields::behind_first_word(line)) {
         None => Err(TraceFault::BadLine(number)),
         Some(limit) if limit > EXECUTOR_STEPS => Err(TraceFault::TooMany(number)),
         Some(limit) => Ok(Script {

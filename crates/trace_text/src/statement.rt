@@ -2,7 +2,7 @@ ghost use Rattle.std.specs.Prelude.{◌≡◌};
 ghost use Rattle.trace_text.specs.Fields.{fields_of};
 ghost use Rattle.trace_text.specs.Reading.{at_of, limit_of, power_of, powers_of, statement_of};
 
-use crate::fields::Fields;
+use crate::fields::{Fields, first_word};
 use crate::number::number_in;
 use coati_word::limits::{DEVICES, PERIOD_STEPS};
 use task_check::Checked;
@@ -27,8 +27,8 @@ pub(crate) enum Statement {
 pub(crate) fn statement_in(checked: &Checked, line: &[u8]) -> Option<Statement>
     ensures { result ≡ statement_of checked.now (fields_of line.now) }
 {
-    let mut fields = Fields::of(line);
-    match fields.next()? {
+    let mut fields = Fields::behind_first_word(line);
+    match first_word(line) {
         b"limit" => Some(Statement::Limit(limit_in(&mut fields)?)),
         b"power" => power_in(&mut fields),
         b"at" => posting_in(checked, &mut fields),

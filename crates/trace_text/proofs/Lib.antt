@@ -5,3 +5,4 @@ pub mod LineCounts
 pub mod Numbers
 pub mod Openings
 pub mod Refusals
+pub mod Readings

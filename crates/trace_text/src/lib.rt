@@ -3,9 +3,12 @@
 
 mod fault;
 mod fields;
+mod laws;
 mod number;
 mod script;
 mod statement;
 mod trace;
 
 pub use fault::TraceFault;
+pub use laws::{each_line_says_at_most_one_thing, each_text_has_one_answer};
+pub use trace::read_trace;

@@ -1,4 +1,4 @@
-ghost use Rattle.std.specs.Prelude.{◌≡◌, ◌+◌, ◌*◌, ◌≤◌, ◌++◌, true, length, replicate, IfOk, OnOk, Some, None};
+ghost use Rattle.std.specs.Prelude.{◌≡◌, ◌+◌, ◌*◌, ◌^◌, ◌<◌, ◌++◌, true, replicate, IfOk, OnOk, Some, None};
 ghost use Rattle.serial_log.specs.declared.script.Posting.{Posting};
 ghost use Rattle.task_cost.specs.Limits.{handler_bound};
 ghost use Rattle.task_syntax.specs.declared.program.Program.{Program};
@@ -152,7 +152,7 @@ fn last_time(postings: &[Posting]) -> u32
 
 /// The greatest count of machine steps of a run.
 fn run_bound(limit: u32, handler: u32, postings: usize) -> u64
-    requires { postings ≤ POSTINGS }
+    requires { postings < 2 ^ 31 }
     ensures { result ≡ limit + handler * postings }
 {
     u64::from(limit) + u64::from(handler) * postings as u64

@@ -9,7 +9,7 @@ use task_check::Checked;
 
 /// What a line of a trace says.
 #[derive(Clone, Copy, Debug, PartialEq, Eq)]
-pub(crate) enum Statement {
+pub enum Statement {
     /// The executor makes at most so many steps.
     Limit(u32),
     /// So many power periods follow, each of this many machine steps.

@@ -1,8 +1,9 @@
-ghost use Rattle.std.specs.Prelude.{◌≡◌, ◌<◌, ◌^◌, true, length, IfOk, IfSome};
+ghost use Rattle.std.specs.Prelude.{◌≡◌, ◌<◌, ◌^◌, true, length, Ok, Err, IfOk, IfErr, IfSome};
 ghost use Rattle.task_cost.specs.Limits.{handler_bound};
-ghost use Rattle.trace_text.specs.Answer.{IsAnswer};
+ghost use Rattle.serial_log.specs.declared.script.Script.{Script};
+ghost use Rattle.trace_text.specs.Answer.{Explains, IsAnswer};
 ghost use Rattle.trace_text.specs.Reading.{line_reading, reading};
-ghost use Rattle.trace_text.specs.Trace.{is_within};
+ghost use Rattle.trace_text.specs.Trace.{FirstFault, TraceText, is_within};
 
 use crate::TraceFault;
 use crate::fields::is_quiet;
@@ -12,6 +13,19 @@ use serial_log::Script;
 use std::alloc::Global;
 use task_check::Checked;
 use task_cost::bounds;
+
+/// Reads a trace: what the script of a run of the program is. A text that is none is refused with its first fault.
+pub fn read_trace(alloc: Global, checked: &Checked, text: &[u8]) -> Result<Script, TraceFault>
+    requires { length text.now < 2 ^ 31 }
+    ensures script { IfOk result (TraceText checked.now text.now) }
+    ensures fault { IfErr result (Explains checked.now text.now) }
+
+    // A text that is a script is read as that script, and one that has a first fault is refused with it.
+    ensures scripts { (script : Script) → TraceText checked.now text.now script → IsAnswer result (Ok script) }
+    ensures faults { (fault : TraceFault) → FirstFault checked.now text.now fault → IsAnswer result (Err fault) }
+{
+    script_of(alloc, checked, text)
+}
 
 /// The script of a text, line by line.
 fn script_of(alloc: Global, checked: &Checked, text: &[u8]) -> Result<Script, TraceFault>

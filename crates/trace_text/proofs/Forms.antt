@@ -1,5 +1,5 @@
 -- What a line says is what is read of its fields.
-use Rattle.std.proofs.Common.{◌≡◌, ◌≢◌, ℕ, ◌≤◌, ◌<◌, ◌^◌, true, false, List, [], ◌∷◌, Option, Some, None, refl, ap, sym, ◌∙◌, arith, inl, inr, subst}
+use Rattle.std.proofs.Common.{◌≡◌, ◌≢◌, ℕ, ◌≤◌, ◌<◌, ◌^◌, true, List, [], ◌∷◌, Option, Some, None, refl, ap, ◌∙◌, arith, inl, inr, subst}
 use Rattle.std.specs.Fmt.{decimal}
 use Rattle.std.specs.Prelude.{bytes_eq, codes, option_and_then}
 use Rattle.std.specs.Option.{option_map}
@@ -65,7 +65,7 @@ powers_says : (program : Program) (line : List ℕ) (fields : List (List ℕ)) (
 powers_says program line [] statement cut read = cc
 powers_says program line (period ∷ []) statement cut read =
     power_says program line period 1 statement
-      (λ length is. power length (cut ∙ ap (λ (x : List ℕ). codes "power" ∷ x ∷ []) is.spelled) is.least_is is.most_is) read
+    (λ length is. power length (cut ∙ ap (λ (x : List ℕ). codes "power" ∷ x ∷ []) is.spelled) is.least_is is.most_is) read
 powers_says program line (period ∷ word ∷ []) statement cut read = cc
 powers_says program line (period ∷ word ∷ times ∷ []) statement cut read = elim (cases_Bool (bytes_eq word (codes "times"))) [
   | inl same ↦
@@ -74,8 +74,8 @@ powers_says program line (period ∷ word ∷ times ∷ []) statement cut read =
       let told = chained (power_of period) (number_in 1 greatest_number times) statement both in
       let count = number_in-parts 1 greatest_number told.value times told.was in
       power_says program line period told.value statement
-        (λ length is. powers length told.value (cut ∙ same_powers period (decimal length) word times (decimal told.value) is.spelled word_is count.spelled) is.least_is is.most_is count.least_is count.most_is)
-        told.is
+      (λ length is. powers length told.value (cut ∙ same_powers period (decimal length) word times (decimal told.value) is.spelled word_is count.spelled) is.least_is is.most_is count.least_is count.most_is)
+      told.is
   | inr other ↦ let none : None ≡ Some statement = rw other at read in cc
 ]
 powers_says program line (period ∷ word ∷ times ∷ other ∷ more) statement cut read = cc
@@ -96,7 +96,7 @@ at_says program line (time ∷ device ∷ (byte ∷ event) ∷ argument ∷ []) 
     let d = number_in-parts 0 greatest_device placed.value device placed.was in
     let a = number_in-parts 0 greatest_argument given.value argument given.was in
     subst (λ (s : Statement). Says program line s) given.is
-      (at timed.value placed.value name given.value (cut ∙ same_at time (decimal timed.value) device (decimal placed.value) name argument (decimal given.value) t.spelled d.spelled a.spelled) (λ e. cc) t.most_is d.most_is a.most_is)
+    (at timed.value placed.value name given.value (cut ∙ same_at time (decimal timed.value) device (decimal placed.value) name argument (decimal given.value) t.spelled d.spelled a.spelled) (λ e. cc) t.most_is d.most_is a.most_is)
 at_says program line (time ∷ device ∷ (byte ∷ event) ∷ argument ∷ other ∷ more) statement cut read = cc
 
 -- the statement that is read of the fields is what the line says
@@ -130,8 +130,11 @@ at_read : (program : Program) (time device : ℕ) (event : List ℕ) (argument :
     → at_of program (decimal time ∷ decimal device ∷ event ∷ decimal argument ∷ []) ≡ Some (At time device (event_of program event) argument)
 at_read program time device [] argument some t d a = absurd (some refl)
 at_read program time device (byte ∷ event) argument some t d a =
-    rw (read_back 0 greatest_number time (omega arith) (omega arith) t, read_back 0 greatest_device device (omega arith) (omega arith) d,
-      read_back 0 greatest_argument argument (omega arith) (omega arith) a) refl
+    rw (
+      read_back 0 greatest_number time (omega arith) (omega arith) t,
+      read_back 0 greatest_device device (omega arith) (omega arith) d,
+      read_back 0 greatest_argument argument (omega arith) (omega arith) a,
+    ) refl
 
 -- what the line says is read of its fields
 pub says_read : (program : Program) (line : List ℕ) (statement : Statement)

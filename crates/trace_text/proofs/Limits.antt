@@ -1,5 +1,5 @@
 -- Scripts within the limits, and beyond them.
-use Rattle.std.proofs.Common.{◌≡◌, ℕ, ◌+◌, ◌*◌, ◌<◌, ◌≤◌, true, false, ◌&&◌, List, [], ◌∷◌, ◌++◌, length, replicate, refl, arith, get_or, suc, zero}
+use Rattle.std.proofs.Common.{◌≡◌, ℕ, ◌≤◌, true, false, ◌&&◌, List, [], ◌∷◌, length, refl, arith, get_or, suc, zero}
 use Rattle.std.specs.Prelude.{nat_le}
 use Rattle.std.proofs.lemmas.Bool.{and_parts, and_from, le-leb, leb-true, false_from_ne_true}
 use Rattle.coati_word.specs.declared.limits.TheConstants.{EXECUTOR_STEPS, MACHINE_STEPS, POSTINGS, POWER_PERIODS}
@@ -37,10 +37,10 @@ is_within-from program script is =
     let posted = nat_le (length script.postings) POSTINGS in
     let bounded = nat_le (run_bound program script) MACHINE_STEPS in
     and_from (limited && powered && posted) bounded
-      (and_from (limited && powered) posted
-        (and_from limited powered (le-leb script.limit EXECUTOR_STEPS is.limit) (le-leb (length script.power) POWER_PERIODS is.power))
-        (le-leb (length script.postings) POSTINGS is.postings))
-      (le-leb (run_bound program script) MACHINE_STEPS is.run)
+    (and_from (limited && powered) posted
+    (and_from limited powered (le-leb script.limit EXECUTOR_STEPS is.limit) (le-leb (length script.power) POWER_PERIODS is.power))
+    (le-leb (length script.postings) POSTINGS is.postings))
+    (le-leb (run_bound program script) MACHINE_STEPS is.run)
 
 pub is_within-beyond : (program : Program) (script : Script) → (IsWithin program script → ⊥) → is_within program script ≡ false
 is_within-beyond program script beyond = false_from_ne_true (is_within program script) (λ is. beyond (is_within-parts program script is))

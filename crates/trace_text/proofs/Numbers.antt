@@ -1,5 +1,5 @@
 -- Fields that are decimals of numbers in a range.
-use Rattle.std.proofs.Common.{◌≡◌, ℕ, ◌<◌, ◌≤◌, ◌^◌, Bool, true, false, ◌&&◌, List, Some, None, refl, ap, sym, ◌∙◌, arith, inl, inr}
+use Rattle.std.proofs.Common.{◌≡◌, ℕ, ◌<◌, ◌≤◌, ◌^◌, true, ◌&&◌, List, Some, None, refl, ap, ◌∙◌, inl, inr}
 use Rattle.std.specs.Fmt.{decimal}
 use Rattle.std.specs.Str.{bytes_eq}
 use Rattle.std.specs.Str.Parse.{digits_value}
@@ -28,8 +28,8 @@ is_decimal_of-parts least most number field is =
 is_decimal_of-from : (least most number : ℕ) (field : List ℕ) → IsIn least most field number → is_decimal_of least most field number ≡ true
 is_decimal_of-from least most number field is =
     and_from (bytes_eq field (decimal number) && nat_le least number) (nat_le number most)
-      (and_from (bytes_eq field (decimal number)) (nat_le least number) ((bytes_eq-Decides field (decimal number)).1 is.spelled) (le-leb least number is.least_is))
-      (le-leb number most is.most_is)
+    (and_from (bytes_eq field (decimal number)) (nat_le least number) ((bytes_eq-Decides field (decimal number)).1 is.spelled) (le-leb least number is.least_is))
+    (le-leb number most is.most_is)
 
 -- a number in the range is read of its decimal
 pub number_in-from : (least most number : ℕ) (field : List ℕ) → number < 2 ^ 64 → IsIn least most field number → number_in least most field ≡ Some number

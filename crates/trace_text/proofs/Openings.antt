@@ -9,7 +9,7 @@ use Rattle.trace_text.specs.declared.fault.TraceFault.TheVariants.{BadLine}
 use Rattle.trace_text.specs.declared.statement.Statement.{Statement}
 use Rattle.trace_text.specs.declared.statement.Statement.TheVariants.{Limit}
 use Rattle.trace_text.specs.Fields.{fields_of, first_word}
-use Rattle.trace_text.specs.Reading.{limit_of, said_reading, statement_of, statement_reading}
+use Rattle.trace_text.specs.Reading.{limit_of, said_reading, statement_reading}
 
 mapped : (F : Statement → Result Script TraceFault) (other : Result Script TraceFault) (limit : Option ℕ)
     → option_map_or F (option_map Limit limit) other ≡ option_map_or (λ limit. F (Limit limit)) limit other

@@ -1,5 +1,5 @@
 -- Many lines: the script to which they lead, or the first that is refused.
-use Rattle.std.proofs.Common.{◌≡◌, ◌≢◌, ℕ, ◌+◌, true, false, List, [], ◌∷◌, ◌++◌, Option, Some, None, Result, Ok, Err, length, filter, not, refl, ap, sym, ◌∙◌, inl, inr, arith, subst, zero-add}
+use Rattle.std.proofs.Common.{◌≡◌, ◌≢◌, ℕ, ◌+◌, true, false, List, [], ◌∷◌, ◌++◌, Option, Some, None, Result, Ok, Err, length, refl, ap, sym, ◌∙◌, inl, inr, arith, subst}
 use Rattle.std.specs.Prelude.{codes, bytes_eq, ◌⊎◌}
 use Rattle.std.proofs.lemmas.Bool.{cases_Bool}
 use Rattle.std.proofs.lemmas.List.{append-nil}
@@ -134,10 +134,10 @@ at_unlimited program number line more heard other = inr (record {
   found_is = refl;
   untold = refl;
   lacks = λ first others e.
-    let here : said_lines (line ∷ more) ≡ line ∷ said_lines more = rw heard refl in
-    let same : line ∷ said_lines more ≡ first ∷ others = sym here ∙ e in
-    let first_is : line ≡ first = cc in
-    subst (λ (text : List ℕ). first_word text ≢ codes "limit") first_is other;
+      let here : said_lines (line ∷ more) ≡ line ∷ said_lines more = rw heard refl in
+      let same : line ∷ said_lines more ≡ first ∷ others = sym here ∙ e in
+      let first_is : line ≡ first = cc in
+      subst (λ (text : List ℕ). first_word text ≢ codes "limit") first_is other;
 })
 
 -- whether a limit is told, or this line begins with its word
@@ -168,6 +168,7 @@ lines_mean program number told (line ∷ more) = elim (cases_Bool (is_quiet line
       → LinesMean program number told (line ∷ more) (read_on (λ script. lines_reading program (number + 1) (Some script) more) read)
   go heard limited (Ok script) means again = behind_told program number told line script more (lines_reading program (number + 1) (Some script) more) heard means (again script)
   go heard limited (Err found) means again = at_refused program number told line more found heard limited means
+
   unlimited_means : (told : Option Script) → told ≡ None → is_quiet line ≡ false → first_word line ≢ codes "limit"
       → LinesMean program number told (line ∷ more) (lines_reading program number told (line ∷ more))
   unlimited_means None none heard other =
@@ -199,8 +200,8 @@ refused_read program text number IsFault found refuses at =
     let place : 0 + length at.front + 1 ≡ number = omega (arith, at.counted) in
     let read : line_reading program (0 + length at.front + 1) at.told at.line ≡ Err found =
     limited_reading program (0 + length at.front + 1) at.told at.line at.limited
-      ∙ ap (λ (n : ℕ). said_reading program n at.told at.line) place
-      ∙ refused_reading program number at.told at.line found (refuses at.told at.line at.fault) in
+    ∙ ap (λ (n : ℕ). said_reading program n at.told at.line) place
+    ∙ refused_reading program number at.told at.line found (refuses at.told at.line at.fault) in
     ap (λ (lines : List (List ℕ)). lines_reading program 0 None lines) at.lines_are
     ∙ leads_reading program 0 None at.front at.told (at.line ∷ at.more) at.before
     ∙ heard_on program (0 + length at.front) at.told at.line at.more (Err found) at.heard read

@@ -1,5 +1,5 @@
 -- One line: what it tells, or why it is refused.
-use Rattle.std.proofs.Common.{◌≡◌, ◌≢◌, ℕ, ◌+◌, true, false, List, [], ◌∷◌, Option, Some, None, Result, Ok, Err, refl, ap, sym, ◌∙◌, inl, inr}
+use Rattle.std.proofs.Common.{◌≡◌, ◌≢◌, ℕ, true, false, List, ◌∷◌, Option, Some, None, Result, Ok, Err, refl, sym, ◌∙◌, inl, inr}
 use Rattle.std.specs.Prelude.{bytes_eq, codes}
 use Rattle.std.proofs.lemmas.Bool.{cases_Bool, false_from_ne_true}
 use Rattle.std.proofs.lemmas.Slice.Eq.{bytes_eq-Decides}
@@ -11,7 +11,7 @@ use Rattle.trace_text.specs.declared.statement.Statement.{Statement}
 use Rattle.trace_text.specs.declared.statement.Statement.TheVariants.{Limit, Power, At}
 use Rattle.trace_text.specs.Fields.{fields_of, first_word}
 use Rattle.trace_text.specs.Reading.{line_reading, said_reading, statement_of, statement_reading}
-use Rattle.trace_text.specs.Statements.{Says, limit, power, powers, at}
+use Rattle.trace_text.specs.Statements.{Says, limit}
 use Rattle.trace_text.specs.Trace.{IsBad, IsOutOfOrder, IsTooMuch, IsUnknown, Tells, is_in_order, is_known, is_within, script_behind}
 use Rattle.trace_text.proofs.Cuts.{first_field}
 use Rattle.trace_text.proofs.Forms.{says_from, says_read}

@@ -1,5 +1,5 @@
 -- The fields of a line, one space between each two.
-use Rattle.std.specs.Prelude.{ℕ, Bool, true, false, List, [], ◌∷◌, ◌==◌}
+use Rattle.std.specs.Prelude.{ℕ, Bool, true, List, [], ◌∷◌, ◌==◌}
 use Rattle.std.specs.List.{before_first, slice_split}
 
 -- the byte between two fields

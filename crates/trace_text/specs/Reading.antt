@@ -1,5 +1,5 @@
 -- How a text is read, line by line: the script that it is, or its first fault.
-use Rattle.std.specs.Prelude.{ℕ, ◌+◌, ◌&&◌, Bool, true, false, List, [], ◌∷◌, Option, Some, None, Result, Ok, Err, bytes_eq, codes, decimal, if◌then◌else◌, nat_le, option_and_then}
+use Rattle.std.specs.Prelude.{ℕ, ◌+◌, ◌&&◌, Bool, List, [], ◌∷◌, Option, Some, None, Result, Ok, Err, bytes_eq, codes, decimal, if◌then◌else◌, nat_le, option_and_then}
 use Rattle.std.specs.Option.{ok_or, option_map, option_map_or}
 use Rattle.std.specs.Str.Parse.{digits_value}
 use Rattle.coati_text.specs.Line.{lines_of}
@@ -45,7 +45,7 @@ abbrev pub at_of : Program → List (List ℕ) → Option Statement
 at_of program (time ∷ device ∷ [] ∷ more) = None
 at_of program (time ∷ device ∷ event ∷ argument ∷ []) =
     option_and_then (λ time. option_and_then (λ device. option_map (λ argument. At time device (event_of program event) argument)
-        (number_in 0 greatest_argument argument)) (number_in 0 greatest_device device)) (number_in 0 greatest_number time)
+    (number_in 0 greatest_argument argument)) (number_in 0 greatest_device device)) (number_in 0 greatest_number time)
 at_of program fields = None
 
 -- what a line of these fields says

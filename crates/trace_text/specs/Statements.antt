@@ -17,8 +17,8 @@ greatest_device = 7
 abbrev pub greatest_argument : ℕ
 greatest_argument = 65535
 
--- the line has the form of this statement: `limit L`, `power P`, `power P times M` or `at T D EVENT A`, where the event has
--- a number if the program has one of this name
+-- the line has the form of this statement: `limit L`, `power P`, `power P times M` or `at T D EVENT A`,
+-- where the event has a number if the program has one of this name
 pub data Says (program : Program) (line : List ℕ) : Statement → Type 0 where
   limit : (limit : ℕ) → fields_of line ≡ codes "limit" ∷ decimal limit ∷ []
       → limit ≤ greatest_number → Says program line (Limit limit)

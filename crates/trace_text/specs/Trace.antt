@@ -1,8 +1,7 @@
--- Which script a text is, and why a text is none. Each line is read where those before it lead: to no script before the
--- line of the limit, and then to the script that they tell.
+-- Which script a text is, and why a text is none. Each line is read where those before it lead: to no
+-- script before the line of the limit, and then to the script that they tell.
 use Rattle.std.specs.Prelude.{ℕ, ◌≡◌, ◌≢◌, ◌+◌, ◌*◌, ◌==◌, Bool, true, false, ◌&&◌, not, List, [], ◌∷◌, ◌++◌, Option, Some, None, codes, filter, length, nat_le, replicate, unwrap_or}
-
-use Rattle.std.specs.Option.{is_some, option_map_or}
+use Rattle.std.specs.Option.{is_some}
 use Rattle.coati_text.specs.Line.{lines_of}
 use Rattle.coati_word.specs.declared.limits.TheConstants.{EXECUTOR_STEPS, MACHINE_STEPS, POSTINGS, POWER_PERIODS}
 use Rattle.serial_log.specs.declared.script.Posting.{Posting}
@@ -44,7 +43,8 @@ last_time [] = 0
 last_time (posting ∷ []) = posting.time
 last_time (posting ∷ next ∷ more) = last_time (next ∷ more)
 
--- the statement may stand here: the limit first and once, then the periods, then the postings in the order of their times
+-- the statement may stand here: the limit first and once, then the periods, then the postings in the
+-- order of their times
 abbrev pub is_in_order : Option Script → Statement → Bool
 is_in_order None (Limit limit) = true
 is_in_order None statement = false
@@ -52,7 +52,7 @@ is_in_order (Some script) (Limit limit) = false
 is_in_order (Some script) (Power period times) = length script.postings == 0
 is_in_order (Some script) (At time device event argument) = nat_le (last_time script.postings) time
 
--- the greatest count of machine steps in which a run of the script may end: its limit, and a handler for each posting
+-- how many machine steps a run of the script may take: its limit, and a handler for each posting
 abbrev pub run_bound : Program → Script → ℕ
 run_bound program script = script.limit + handler_bound program * length script.postings
 
@@ -112,10 +112,12 @@ said_lines lines = filter (λ line. not (is_quiet line)) lines
 
 -- no line says something, or the first one that does has another first word than `limit`
 abbrev pub LacksLimit : List (List ℕ) → Type 0
-LacksLimit lines = (line : List ℕ) (more : List (List ℕ)) → said_lines lines ≡ line ∷ more → first_word line ≢ codes "limit"
+LacksLimit lines =
+    (line : List ℕ) (more : List (List ℕ)) → said_lines lines ≡ line ∷ more → first_word line ≢ codes "limit"
 
 -- the line of this number, counted from 1, is the first that is refused, and this is why
-pub record FaultAt (program : Program) (lines : List (List ℕ)) (number : ℕ) (IsFault : Program → Option Script → List ℕ → Type 0) : Type 0 where
+pub record FaultAt (program : Program) (lines : List (List ℕ)) (number : ℕ)
+    (IsFault : Program → Option Script → List ℕ → Type 0) : Type 0 where
   pub front : List (List ℕ)
   pub line : List ℕ
   pub more : List (List ℕ)

@@ -9,7 +9,8 @@ pub enum TraceFault {
     /// This line names an event that the program does not have.
     #[error("line {0} names an unknown event")]
     Unknown(u32),
-    /// This line is a second limit, a power period behind a posting, or a posting before the time of the last one.
+    /// This line is a second limit, a power period behind a posting, or a posting before the time
+    /// of the last one.
     #[error("line {0} is out of order")]
     Order(u32),
     /// With this line the trace is above a limit.

@@ -9,7 +9,7 @@ use std::marker::Model;
 /// Goes over the fields of a line. A contract sees the list of the fields that are left.
 #[derive(Drop)]
 pub(crate) struct Fields<'a> {
-    /// What stands behind the last field that was taken, which is the line's last where this is none.
+    /// What stands behind the last field that was taken, which is the line's last where there is none.
     rest: Option<&'a [u8]>,
 }
 
@@ -57,7 +57,8 @@ pub(crate) fn first_word(line: &[u8]) -> &[u8]
 
 /// What stands behind the first space, if there is one.
 fn behind_first_word(line: &[u8]) -> Option<&[u8]>
-    ensures { fields_of line.now ≡ first_word line.now ∷ option_map_or (λ rest. fields_of rest.now) result [] }
+    ensures { fields_of line.now
+        ≡ first_word line.now ∷ option_map_or (λ rest. fields_of rest.now) result [] }
 {
     let len = first_word_len(line);
     if len < line.len() {

@@ -87,7 +87,8 @@ fn with_periods(
     times: u32,
 ) -> Result<Script, TraceFault>
     requires within { is_within checked.now script ≡ true }
-    ensures read { IsAnswer result (statement_reading checked.now number (Some script) (Statement.Power period times)) }
+    ensures read { IsAnswer result
+        (statement_reading checked.now number (Some script) (Statement.Power period times)) }
     ensures within { IfOk result (λ script. is_within checked.now script ≡ true) }
 {
     if !script.postings.as_slice().is_empty() {
@@ -122,7 +123,8 @@ fn with_posting(
 ) -> Result<Script, TraceFault>
     requires handler { handler ≡ handler_bound checked.now }
     requires within { is_within checked.now script ≡ true }
-    ensures read { IsAnswer result (statement_reading checked.now number (Some script) (posting_statement posting)) }
+    ensures read { IsAnswer result
+        (statement_reading checked.now number (Some script) (posting_statement posting)) }
     ensures within { IfOk result (λ script. is_within checked.now script ≡ true) }
 {
     let postings = script.postings.as_slice();

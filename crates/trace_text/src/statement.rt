@@ -13,7 +13,10 @@ pub enum Statement {
     /// The executor makes at most so many steps.
     Limit(u32),
     /// So many power periods follow, each of this many machine steps.
-    Power { period: u32, times: u32 },
+    Power {
+        period: u32,
+        times: u32,
+    },
     /// A device makes a posting. The event has no number where the program has none of its name.
     At {
         time: u32,

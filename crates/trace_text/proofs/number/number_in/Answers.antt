@@ -1,10 +1,10 @@
-use Rattle.std.proofs.Common.{◌≡◌, ◌∙◌, ◌+◌, ◌++◌, ◌≤◌, ◌<◌, ◌^◌, ℕ, [], List, length, sym, ap, refl, drop, arith}
+use Rattle.std.proofs.Common.{◌≡◌, ◌∙◌, ◌+◌, ◌++◌, ◌≤◌, ℕ, [], List, length, sym, ap, refl, drop, arith}
 use Rattle.std.specs.Fmt.{decimal}
 use Rattle.std.specs.Char.{is_ascii_digit}
 use Rattle.std.proofs.lemmas.List.{append-nil, length-append, length-drop, drop_all}
 use Rattle.std.proofs.lemmas.List.Folds.{length-prefix_len}
 use Rattle.std.proofs.lemmas.Grind.{common_steps}
-use Rattle.trace_text.proofs.Numbers.{IsIn, number_in-from, number_in-none}
+use Rattle.trace_text.proofs.Numbers.{number_in-from, number_in-none}
 use Rattle.trace_text.proofs.number.number_in.Goals as goal
 
 pub returns-in-Ok-clause-number : goal.returns-in-Ok-clause-number

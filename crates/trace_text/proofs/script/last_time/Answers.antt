@@ -1,4 +1,4 @@
-use Rattle.std.proofs.Common.{◌≡◌, ◌-◌, length, arith, suc}
+use Rattle.std.proofs.Common.{◌-◌, length, arith}
 use Rattle.trace_text.proofs.Limits.{last_time-get}
 use Rattle.trace_text.proofs.script.last_time.Goals as goal
 

@@ -1,4 +1,4 @@
-use Rattle.std.proofs.Common.{◌≡◌, ◌∙◌, Result, Ok, Err, sym, refl, ℕ, List, IfOk, IfErr, subst}
+use Rattle.std.proofs.Common.{Result, Ok, Err, ℕ, List, IfOk, IfErr, subst}
 use Rattle.serial_log.specs.declared.script.Script.{Script}
 use Rattle.task_syntax.specs.declared.program.Program.{Program}
 use Rattle.trace_text.specs.Answer.{Explains, IsAnswer}

@@ -1,4 +1,4 @@
-use Rattle.std.proofs.Common.{◌≡◌, ◌+◌, true, length, IfSome, None}
+use Rattle.std.proofs.Common.{◌≡◌, ◌+◌, true, length, IfSome}
 use Rattle.coati_text.specs.Line.{lines_of}
 use Rattle.trace_text.specs.Reading.{lines_reading, reading}
 use Rattle.trace_text.specs.Trace.{is_within}

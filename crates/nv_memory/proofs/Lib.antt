@@ -5,3 +5,4 @@ pub mod Blank
 pub mod LogWrites
 pub mod Turns
 pub mod Held
+pub mod Frames

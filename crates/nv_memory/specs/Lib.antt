@@ -6,5 +6,6 @@ pub mod Ring
 pub mod StandsFor
 pub mod InRange
 pub mod Blank
+pub mod Frames
 pub mod LogLaws
 pub mod RingLaws

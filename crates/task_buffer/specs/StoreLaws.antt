@@ -1,0 +1,32 @@
+-- What the parts of a store, and the write that empties a log, make of the image.
+use Rattle.std.specs.Prelude.{ℕ, ◌+◌, ◌==◌, ◌<◌, ◌≡◌, ◌≢◌, Bool, true, false, Option, Some, ◌&&◌, if◌then◌else◌}
+use Rattle.nv_memory.specs.declared.log.Log.{Log}
+use Rattle.nv_memory.specs.declared.log.Log.TheVariants as log
+use Rattle.nv_memory.specs.State.{State, put, set_to}
+use Rattle.nv_memory.specs.Logs.{HasLog, IsEmpty, log_value, seats_of}
+use Rattle.nv_memory.specs.Frames.{KeepsBeside}
+use Rattle.nv_memory.specs.InRange.{InRange, IsClosed}
+use Rattle.task_buffer.specs.Stores.{IsBegun, store_change, store_ends}
+
+-- the log has the value once the store ends, and until then what it had
+pub record Stores (log : Log) (word value part : ℕ) (done : Bool) (s t : State) : Type 0 where
+  pub log_after : (other : ℕ) → log_value t log other ≡ (if done && (word == other) then Some value else log_value s log other)
+  pub begun : done ≡ false → IsBegun t log word value (part + 1)
+  pub beside : KeepsBeside log s t
+  pub range : InRange t
+  pub closed : log ≢ log.Tx → IsClosed s → IsClosed t
+
+abbrev pub StoresSetTheValue : Type 0
+StoresSetTheValue = (s : State) (log : Log) (word value part : ℕ) → InRange s → HasLog s.k log → word < s.n
+    → IsBegun s log word value part
+    → Stores log word value part (store_ends s log word part) s (put s (store_change s log word value part))
+
+-- the log has no word, and nothing beside it is changed
+pub record Empties (log : Log) (s t : State) : Type 0 where
+  pub empty : IsEmpty t log
+  pub beside : KeepsBeside log s t
+  pub range : InRange t
+  pub closed : IsClosed s → IsClosed t
+
+abbrev pub ResetsEmptyTheLog : Type 0
+ResetsEmptyTheLog = (s : State) (log : Log) → InRange s → HasLog s.k log → Empties log s (put s (set_to (seats_of log).length 0))

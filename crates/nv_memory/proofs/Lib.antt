@@ -6,3 +6,5 @@ pub mod LogWrites
 pub mod Turns
 pub mod Held
 pub mod Frames
+pub mod BlankSound
+mod Examples

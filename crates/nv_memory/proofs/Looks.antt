@@ -62,8 +62,11 @@ pub look_above : (num val new_num new_val : ℕ → ℕ) (k word : ℕ) → ((i 
     → ((i : ℕ) → i < k → new_val i ≡ val i) → look_up new_num new_val k word ≡ look_up num val k word
 look_above num val new_num new_val zero word same there = refl
 look_above num val new_num new_val (suc k) word same there =
-    rw (same k (omega arith), there k (omega arith),
-    look_above num val new_num new_val k word (λ i l. same i (omega arith)) (λ i l. there i (omega arith))) refl
+    rw (
+      same k (omega arith),
+      there k (omega arith),
+      look_above num val new_num new_val k word (λ i l. same i (omega arith)) (λ i l. there i (omega arith)),
+    ) refl
 
 pub index_above : (num new_num : ℕ → ℕ) (k word : ℕ) → ((i : ℕ) → i < k → new_num i ≡ num i) → index_of new_num k word ≡ index_of num k word
 index_above num new_num zero word same = refl

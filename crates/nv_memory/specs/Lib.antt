@@ -7,5 +7,6 @@ pub mod StandsFor
 pub mod InRange
 pub mod Blank
 pub mod Frames
+pub mod BlankLaws
 pub mod LogLaws
 pub mod RingLaws

@@ -9,18 +9,28 @@ use crate::log::Log;
 
 // The parts that have a word for each variable word, in their order.
 const VARIABLES: u16 = 0;
+
 const TASK_NUMBERS: u16 = 1;
+
 const TASK_VALUES: u16 = 2;
+
 const TX_NUMBERS: u16 = 3;
+
 const TX_VALUES: u16 = 4;
+
 const ATTEMPT_FLAGS: u16 = 5;
+
 const TX_FLAGS: u16 = 6;
+
 const PARTS: u16 = 7;
 
 // The words of an entry before its log: event, length of the log, message.
 const ENTRY_WORDS: u16 = 6;
+
 const ENTRY_EVENT: u16 = 0;
+
 const ENTRY_LENGTH: u16 = 1;
+
 const ENTRY_MESSAGE: u16 = 2;
 
 /// Where the words of an image lie.

@@ -1,5 +1,5 @@
 -- The words of a blank image, seat by seat.
-use Rattle.std.proofs.Common.{◌≡◌, ℕ, ◌+◌, ◌-◌, ◌*◌, ◌<◌, ◌≤◌, ◌≢◌, ◌==◌, List, [], ◌∷◌, ◌++◌, length, replicate, get_or, inl, inr, refl, sym, ap, ◌∙◌, arith, Bool, true, false, if◌then◌else◌}
+use Rattle.std.proofs.Common.{◌≡◌, ℕ, ◌+◌, ◌-◌, ◌*◌, ◌<◌, ◌≤◌, ◌≢◌, ◌==◌, List, [], ◌∷◌, ◌++◌, length, replicate, inl, inr, refl, sym, ap, ◌∙◌, arith, Bool, true, false, if◌then◌else◌}
 use Rattle.std.specs.Prelude.{slice_index}
 use Rattle.std.proofs.lemmas.List.{get_or_append_left, get_or-append_right, get_or_past, get_or-replicate}
 use Rattle.std.proofs.Math.Nat.{mul-le-mul_right}
@@ -7,8 +7,8 @@ use Rattle.std.proofs.lemmas.Bool.{cases_eq}
 use Rattle.std.proofs.lemmas.Bool.Decides.{nat_tests}
 use Rattle.coati_word.specs.declared.mode.Mode.{Mode}
 use Rattle.coati_word.specs.declared.mode.Mode.TheVariants as mode
-use Rattle.nv_memory.specs.Seats.{Memory, Seat, address, is_seat, size}
-use Rattle.nv_memory.specs.State.{State, cells, state}
+use Rattle.nv_memory.specs.Seats.{Seat, address, is_seat, size}
+use Rattle.nv_memory.specs.State.{cells, state}
 use Rattle.nv_memory.specs.Blank.{blank, blank_cells, blank_words, header_words, mode_word}
 use Rattle.nv_memory.proofs.Seats.{is_in, part_seat, seat_inside}
 use Rattle.nv_memory.proofs.Looks.{test_other}

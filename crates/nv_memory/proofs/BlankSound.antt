@@ -1,5 +1,5 @@
 -- A blank image is in range and holds nothing.
-use Rattle.std.proofs.Common.{◌≡◌, ℕ, ◌+◌, ◌-◌, ◌*◌, ◌%◌, ◌<◌, ◌≤◌, List, [], length, map, refl, ap, inl, arith}
+use Rattle.std.proofs.Common.{◌≡◌, ℕ, ◌+◌, ◌-◌, List, length, map, refl, ap, inl, arith}
 use Rattle.coati_word.specs.declared.mode.Mode.{Mode}
 use Rattle.nv_memory.specs.declared.log.Log.{Log}
 use Rattle.nv_memory.specs.declared.log.Log.TheVariants as log
@@ -8,7 +8,7 @@ use Rattle.nv_memory.specs.Blank.{blank}
 use Rattle.nv_memory.specs.BlankLaws.{IsBlankSound}
 use Rattle.nv_memory.specs.Logs.{IsLog, seats_of}
 use Rattle.nv_memory.specs.InRange.{IsRing}
-use Rattle.nv_memory.specs.Ring.{entry_at, held_count, positions, positions_between, slots_from}
+use Rattle.nv_memory.specs.Ring.{entry_at, positions, positions_between, slots_from}
 use Rattle.nv_memory.proofs.Turns.{wraps}
 
 none_between : (k : ℕ) → positions_between k 0 0 ≡ 0

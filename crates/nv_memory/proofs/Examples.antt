@@ -1,11 +1,9 @@
 -- What small images stand for, computed: two variable words, and room for one posting.
 use Rattle.std.proofs.Common.{◌≡◌, ℕ, List, [], ◌∷◌, ◌++◌, refl, ◌+◌, true}
 use Rattle.coati_word.specs.declared.mode.Mode.TheVariants as mode
-use Rattle.nv_memory.specs.declared.log.Log.TheVariants as log
 use Rattle.nv_memory.specs.Seats.{Memory, Seat, address}
 use Rattle.nv_memory.specs.State.{State, cells, put, set_to, state}
 use Rattle.nv_memory.specs.Words.{head_seat, mark_seat, tail_seat, tx_flag}
-use Rattle.nv_memory.specs.Logs.{log_value}
 use Rattle.nv_memory.specs.Ring.{Entry, held_entries}
 use Rattle.nv_memory.specs.StandsFor.{committed_word, place_of}
 use Rattle.nv_memory.specs.Blank.{blank}

@@ -1,16 +1,15 @@
 -- What a write to a seat leaves as it was.
-use Rattle.std.proofs.Common.{◌≡◌, ◌≢◌, ◌⊎◌, inl, inr, ℕ, ◌+◌, ◌<◌, ◌≤◌, ◌==◌, refl, sym, ap, subst, ◌∙◌, arith, Bool, true, false, if◌then◌else◌, not, ◌&&◌, Some, None, Option, ◌∷◌, []}
-use Rattle.std.specs.Option.{unwrap_or}
+use Rattle.std.proofs.Common.{◌≡◌, ◌≢◌, ◌⊎◌, inl, inr, ℕ, ◌<◌, ◌==◌, refl, sym, ap, subst, ◌∙◌, arith, Bool, true, false, if◌then◌else◌, None, Option, ◌∷◌, []}
 use Rattle.std.specs.Prelude.{List, map}
 use Rattle.std.proofs.lemmas.Bool.Decides.{nat_tests}
 use Rattle.nv_memory.specs.declared.log.Log.{Log}
 use Rattle.nv_memory.specs.declared.log.Log.TheVariants as log
 use Rattle.nv_memory.specs.Seats.{Seat}
-use Rattle.nv_memory.specs.State.{State, Change, is_same, put, set_to}
-use Rattle.nv_memory.specs.Words.{attempt_flag_seat, current, doomed, first, head, head_next, mark, next, opened, tail, tx_flag, tx_flag_seat, variable}
-use Rattle.nv_memory.specs.Logs.{HasLog, IsLog, log_length, log_value, seats_of}
-use Rattle.nv_memory.specs.Ring.{Entry, entry_at, held_count, held_entries, held_slots, is_taking, oldest, slot_of, slots_from, positions_between}
-use Rattle.nv_memory.specs.StandsFor.{applied_value, committed_word, first_value, head_slot, place_of, unit_value}
+use Rattle.nv_memory.specs.State.{State, is_same, put, set_to}
+use Rattle.nv_memory.specs.Words.{attempt_flag_seat, doomed, head, head_next, mark, opened, tail, tx_flag_seat}
+use Rattle.nv_memory.specs.Logs.{HasLog, IsLog, seats_of}
+use Rattle.nv_memory.specs.Ring.{Entry, entry_at, held_entries, held_slots, is_taking}
+use Rattle.nv_memory.specs.StandsFor.{applied_value, head_slot, unit_value}
 use Rattle.nv_memory.specs.InRange.{InRange, IsClosed, IsRing}
 use Rattle.nv_memory.specs.Frames.{KeepsBeside, StandsForTheSame}
 use Rattle.nv_memory.proofs.Looks.{test_other}

@@ -1,5 +1,5 @@
 -- What a write makes of a log: its range and its look-ups.
-use Rattle.std.proofs.Common.{◌≡◌, ◌≢◌, ◌⊎◌, inl, inr, ℕ, zero, suc, ◌+◌, ◌<◌, ◌≤◌, ◌==◌, refl, sym, ap, subst, ◌∙◌, arith, add-one, Bool, true, false, if◌then◌else◌, Some, None, Option, List, [], ◌∷◌, length, eqb, ◌||◌}
+use Rattle.std.proofs.Common.{◌≡◌, ◌≢◌, ◌⊎◌, inl, inr, ℕ, zero, suc, ◌+◌, ◌<◌, ◌≤◌, ◌==◌, refl, sym, ap, ◌∙◌, arith, add-one, Bool, true, false, if◌then◌else◌, Some, None, Option, List, [], ◌∷◌, length, eqb, ◌||◌}
 use Rattle.std.specs.List.{AllByRecursion, IsDistinct, list_any}
 use Rattle.std.proofs.lemmas.Bool.{cases_eq, ne_eqb}
 use Rattle.std.proofs.lemmas.Bool.Decides.{nat_tests}
@@ -7,9 +7,9 @@ use Rattle.std.proofs.lemmas.Map.Steps.{length-le_from_distinct_below}
 use Rattle.nv_memory.specs.declared.log.Log.{Log}
 use Rattle.nv_memory.specs.declared.log.Log.TheVariants as log
 use Rattle.nv_memory.specs.Seats.{Seat}
-use Rattle.nv_memory.specs.State.{State, Change, is_same, put, set_to}
-use Rattle.nv_memory.specs.Logs.{HasLog, IsEmpty, IsLog, LogSeats, entry_log, index_in, index_of, length_in, log_index, log_length, log_value, look_up, number_in, pair_value_in, seats_of, task_log, tx_log, value_in}
-use Rattle.nv_memory.proofs.Looks.{found_at, index_below, look_above, look_none, look_replaced, look_some, none_among, none_at, put_at, test_other, test_same}
+use Rattle.nv_memory.specs.State.{State, is_same, put, set_to}
+use Rattle.nv_memory.specs.Logs.{IsLog, LogSeats, entry_log, index_in, length_in, look_up, number_in, pair_value_in, seats_of, value_in}
+use Rattle.nv_memory.proofs.Looks.{found_at, look_above, look_replaced, none_among, none_at, put_at, test_other, test_same}
 
 -- the seats of a log differ
 pub record IsApart (l : LogSeats) : Type 0 where

@@ -1,5 +1,5 @@
 -- Look-ups among the first pairs of a log.
-use Rattle.std.proofs.Common.{◌≡◌, ◌≢◌, ℕ, zero, suc, ◌+◌, ◌-◌, ◌<◌, ◌==◌, refl, ap, subst, ◌∙◌, arith, Bool, true, false, if◌then◌else◌, Some, None, Option}
+use Rattle.std.proofs.Common.{◌≡◌, ◌≢◌, ℕ, zero, suc, ◌-◌, ◌<◌, ◌==◌, refl, ap, subst, ◌∙◌, arith, Bool, true, false, if◌then◌else◌, Some, None, Option}
 use Rattle.std.proofs.lemmas.Bool.Decides.{nat_tests}
 use Rattle.nv_memory.specs.Logs.{index_of, look_up}
 

@@ -2,8 +2,8 @@
 use Rattle.std.proofs.Common.{◌≡◌, ℕ, ◌<◌, length, refl, sym, ap, subst, ◌∙◌, Bool, true, false, if◌then◌else◌, get_or-set_same, get_or-set_other}
 use Rattle.std.specs.Prelude.{slice_index, slice_set}
 use Rattle.nv_memory.specs.declared.write.Write.{Write}
-use Rattle.nv_memory.specs.Seats.{Memory, Seat, IsMemory, address, is_seat, size, written}
-use Rattle.nv_memory.specs.State.{Change, PutsOneWord, State, Writes, cells, is_same, put, state, write_of}
+use Rattle.nv_memory.specs.Seats.{Memory, Seat, IsMemory, address, is_seat, written}
+use Rattle.nv_memory.specs.State.{Change, PutsOneWord, Writes, cells, is_same, put, state, write_of}
 use Rattle.nv_memory.proofs.Seats.{address_one, is_itself, same_is, seat_inside}
 
 -- what stands at one seat after a write to another

@@ -1,5 +1,5 @@
 -- Positions and slots: sums modulo a number.
-use Rattle.std.proofs.Common.{◌≡◌, ◌≢◌, ◌⊎◌, ℕ, zero, suc, ◌+◌, ◌-◌, ◌%◌, ◌<◌, ◌≤◌, ◌∙◌, ap, inl, inr, arith}
+use Rattle.std.proofs.Common.{◌≡◌, ◌≢◌, ◌⊎◌, ℕ, ◌+◌, ◌-◌, ◌%◌, ◌<◌, ◌≤◌, ◌∙◌, ap, inl, inr, arith}
 use Rattle.std.proofs.Math.Nat.{mod-eq_of_lt, add-mod_right, add-mod-mod, add_comm}
 use Rattle.std.proofs.lemmas.Bool.{cases_lt}
 use Rattle.nv_memory.specs.Ring.{position_after, positions, positions_between, slot_of}

@@ -2,7 +2,7 @@
 use Rattle.std.specs.Prelude.{ℕ, ◌<◌, ◌≤◌, ◌≡◌, ◌↔◌, None}
 use Rattle.nv_memory.specs.declared.log.Log.{Log}
 use Rattle.nv_memory.specs.State.{State}
-use Rattle.nv_memory.specs.Logs.{HasLog, IsEmpty, IsLog, log_length, log_value, seats_of}
+use Rattle.nv_memory.specs.Logs.{IsEmpty, IsLog, log_length, log_value, seats_of}
 
 -- a log in range has room for a word that it doesn't have
 abbrev pub LogsHaveRoom : Type 0

@@ -1,9 +1,9 @@
 -- Laws of the ring.
-use Rattle.std.specs.Prelude.{ℕ, ◌+◌, ◌<◌, ◌≤◌, ◌≡◌, ◌≢◌, length, slice_index, true}
+use Rattle.std.specs.Prelude.{ℕ, ◌<◌, ◌≤◌, ◌≡◌, ◌≢◌, slice_index, true}
 use Rattle.nv_memory.specs.State.{State}
-use Rattle.nv_memory.specs.Words.{head, mark, tail}
+use Rattle.nv_memory.specs.Words.{head, tail}
 use Rattle.nv_memory.specs.InRange.{IsRing}
-use Rattle.nv_memory.specs.Ring.{held_count, held_slots, is_taking, position_after, positions, positions_between, slot_of}
+use Rattle.nv_memory.specs.Ring.{held_count, held_slots, is_taking, slot_of}
 
 -- no more are held than the buffer has room for
 abbrev pub HeldFitTheBuffer : Type 0

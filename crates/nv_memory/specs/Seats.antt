@@ -1,6 +1,6 @@
 -- Where the words of the image lie. Each word has a seat: one of twelve header words, a word of one of seven parts that
 -- have a word for each variable word, or a word of one of the three parts of an entry.
-use Rattle.std.specs.Prelude.{ℕ, ◌+◌, ◌*◌, ◌==◌, ◌≤◌, ◌≡◌, List, length, slice_index, slice_set, Bool, false, if◌then◌else◌, nat_lt, ◌&&◌}
+use Rattle.std.specs.Prelude.{ℕ, ◌+◌, ◌*◌, ◌==◌, ◌≤◌, ◌≡◌, List, length, slice_set, Bool, if◌then◌else◌, nat_lt, ◌&&◌}
 use Rattle.nv_memory.specs.declared.write.Write.{Write}
 
 pub data Seat : Type 0 where

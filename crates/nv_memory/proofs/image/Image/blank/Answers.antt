@@ -1,6 +1,5 @@
 use Rattle.std.proofs.Common.{rules, ◌≡◌, ℕ, List, length, ap, ◌∙◌}
-use Rattle.nv_memory.specs.Seats.{Memory}
-use Rattle.nv_memory.specs.State.{State, state}
+use Rattle.nv_memory.specs.State.{state}
 use Rattle.nv_memory.specs.Blank.{blank_words}
 use Rattle.nv_memory.proofs.Blank.{blank_state}
 use Rattle.nv_memory.proofs.image.Image.blank.Goals as goal

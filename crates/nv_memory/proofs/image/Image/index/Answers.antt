@@ -1,4 +1,4 @@
-use Rattle.std.proofs.Common.{◌≡◌, sym, ◌∙◌, arith}
+use Rattle.std.proofs.Common.{◌∙◌, arith}
 use Rattle.nv_memory.specs.Logs.{number_in, seats_of}
 use Rattle.nv_memory.specs.State.{state}
 use Rattle.nv_memory.proofs.Looks.{index_before}

@@ -1,4 +1,4 @@
-use Rattle.std.proofs.Common.{ap, sym, subst, ◌∙◌, ◌≡◌, ℕ, Some}
+use Rattle.std.proofs.Common.{ap, sym, ◌∙◌, Some}
 use Rattle.nv_memory.specs.Logs.{length_in, log_value, number_in, pair_value_in, seats_of}
 use Rattle.nv_memory.specs.State.{state}
 use Rattle.nv_memory.proofs.Looks.{found_at}

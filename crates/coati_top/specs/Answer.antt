@@ -5,7 +5,7 @@ use Rattle.coati_word.specs.declared.mode.Mode.{Mode}
 use Rattle.task_syntax.specs.declared.program.Program.{Program}
 use Rattle.coati_board.specs.Board.{Whole}
 use Rattle.coati_board.specs.FirstForm.{IsFirstForm}
-use Rattle.coati_board.specs.SerialRun.{SerialRun}
+use Rattle.serial_log.specs.SerialRun.{SerialRun}
 use Rattle.coati_board.specs.Sound.{StandsFor}
 use Rattle.codegen.specs.Listing.{listing}
 use Rattle.coati_top.specs.declared.command.Command.{Command}

@@ -7,17 +7,17 @@ use Rattle.task_syntax.specs.declared.program.Var.{Var}
 use Rattle.task_syntax.specs.Course.{Store}
 use Rattle.task_syntax.specs.declared.program.UnitDecl.{UnitDecl}
 use Rattle.task_syntax.specs.declared.program.UnitDecl.TheVariants.{Lone, Tx}
-use Rattle.coati_board.specs.declared.history.Mark.{Mark}
-use Rattle.coati_board.specs.declared.history.MarkKind.{MarkKind}
-use Rattle.coati_board.specs.declared.history.MarkKind.TheVariants as kind
-use Rattle.coati_board.specs.declared.history.Record.{Record}
-use Rattle.coati_board.specs.declared.history.Unit.{Unit as Committed}
-use Rattle.coati_board.specs.declared.history.Unit.TheVariants as unit
-use Rattle.coati_board.specs.declared.history.End.{End}
-use Rattle.coati_board.specs.declared.history.End.TheVariants as ended
+use Rattle.serial_log.specs.declared.mark.Mark.{Mark}
+use Rattle.serial_log.specs.declared.mark.MarkKind.{MarkKind}
+use Rattle.serial_log.specs.declared.mark.MarkKind.TheVariants as kind
+use Rattle.serial_log.specs.declared.record.Record.{Record}
+use Rattle.serial_log.specs.declared.unit.Unit.{Unit as Committed}
+use Rattle.serial_log.specs.declared.unit.Unit.TheVariants as unit
+use Rattle.serial_log.specs.declared.end.End.{End}
+use Rattle.serial_log.specs.declared.end.End.TheVariants as ended
 use Rattle.coati_board.specs.Board.{Whole}
-use Rattle.coati_board.specs.History.{readings_in}
-use Rattle.coati_board.specs.SerialRun.{stand_of}
+use Rattle.serial_log.specs.History.{readings_in}
+use Rattle.serial_log.specs.SerialRun.{stand_of}
 use Rattle.task_cost.specs.Limits.{bounds_of}
 use Rattle.coati_top.specs.Lines.{number_line}
 
@@ -51,10 +51,11 @@ abbrev pub commit_text : Program → Record → List Reading → List ℕ
 commit_text program committed reads =
     codes "commit " ++ unit_text program committed.unit ++ codes " reads" ++ flat_map (reading_text program) reads ++ codes "\n"
 
--- the line of a mark, with the part of all readings that is its own
+-- the line of a mark, with the part of all readings that is its own; a board makes no other marks yet
 abbrev pub mark_text : Program → List Reading → MarkKind → List ℕ
 mark_text program readings (kind.Commit committed) = commit_text program committed (readings_in readings committed)
 mark_text program readings (kind.End end) = end_text end
+mark_text program readings _ = []
 
 abbrev pub mark_lines : Program → List Reading → List Mark → List ℕ
 mark_lines program readings marks = flat_map (λ mark. mark_text program readings mark.kind) marks

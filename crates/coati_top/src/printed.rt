@@ -1,15 +1,16 @@
 ghost use Rattle.std.specs.Prelude.{◌≡◌, ◌<◌, ◌∷◌, [], ◌++◌, length, codes, decimal, flat_map, slice_get, Some, IfOk, OnOk};
 ghost use Rattle.std.specs.List.{Any};
-ghost use Rattle.coati_board.specs.History.{HasRecord, readings_in};
-ghost use Rattle.coati_board.specs.declared.history.MarkKind.{MarkKind};
-ghost use Rattle.coati_board.specs.SerialRun.{SerialRun, stand_of};
+ghost use Rattle.serial_log.specs.declared.mark.MarkKind.{MarkKind};
+ghost use Rattle.serial_log.specs.History.{HasRecord, readings_in};
+ghost use Rattle.serial_log.specs.SerialRun.{SerialRun, stand_of};
 ghost use Rattle.coati_board.specs.Sound.{StandsFor};
 ghost use Rattle.coati_top.specs.Printed.{variable_name, task_name, reading_text, unit_text, end_text, mark_text, commit_text, mark_lines, variable_text, variable_lines, board_text};
 
 use crate::output::{put, put_number_line};
-use coati_board::{Board, End, History, MarkKind, Record, Unit};
+use coati_board::Board;
 use coati_text::put_decimal;
 use coati_word::{OutOfMemory, Reading};
+use serial_log::{End, History, MarkKind, Record, Unit};
 use std::alloc::Global;
 use task_cost::bounds;
 use task_syntax::{Program, UnitDecl};
@@ -118,6 +119,7 @@ fn put_mark(
             put_commit(out, program, committed, history.readings(committed))
         }
         MarkKind::End(end) => put_end(out, *end),
+        _ => Ok(()),
     }
 }
 

@@ -1,5 +1,5 @@
 use Rattle.std.proofs.Common.{◌≡◌, ◌++◌, drop}
-use Rattle.coati_board.specs.SerialRun.{stand_of}
+use Rattle.serial_log.specs.SerialRun.{stand_of}
 use Rattle.coati_top.specs.Printed.{variable_lines}
 use Rattle.coati_top.proofs.printed.put_variables.Given as goal
 

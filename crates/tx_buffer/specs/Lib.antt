@@ -1,0 +1,4 @@
+pub mod Next
+pub mod Merge
+pub mod Clear
+pub mod Keeps

@@ -1,5 +1,5 @@
 -- What a write to a seat leaves as it was.
-use Rattle.std.proofs.Common.{◌≡◌, ◌≢◌, ◌⊎◌, inl, inr, ℕ, ◌<◌, ◌==◌, refl, sym, ap, subst, ◌∙◌, arith, Bool, true, false, if◌then◌else◌, None, Option, ◌∷◌, []}
+use Rattle.std.proofs.Common.{◌≡◌, ◌≢◌, ◌⊎◌, inl, inr, ℕ, ◌+◌, ◌<◌, ◌≤◌, ◌==◌, refl, sym, ap, subst, ◌∙◌, arith, Bool, true, false, if◌then◌else◌, None, Option, ◌∷◌, []}
 use Rattle.std.specs.Prelude.{List, map}
 use Rattle.std.proofs.lemmas.Bool.Decides.{nat_tests}
 use Rattle.nv_memory.specs.declared.log.Log.{Log}
@@ -7,13 +7,13 @@ use Rattle.nv_memory.specs.declared.log.Log.TheVariants as log
 use Rattle.nv_memory.specs.Seats.{Seat}
 use Rattle.nv_memory.specs.State.{State, is_same, put, set_to}
 use Rattle.nv_memory.specs.Words.{attempt_flag_seat, doomed, head, head_next, mark, opened, tail, tx_flag_seat}
-use Rattle.nv_memory.specs.Logs.{HasLog, IsLog, seats_of}
+use Rattle.nv_memory.specs.Logs.{HasLog, IsLog, log_length, log_value, number_in, seats_of}
 use Rattle.nv_memory.specs.Ring.{Entry, entry_at, held_entries, held_slots, is_taking}
 use Rattle.nv_memory.specs.StandsFor.{applied_value, head_slot, unit_value}
 use Rattle.nv_memory.specs.InRange.{InRange, IsClosed, IsRing}
 use Rattle.nv_memory.specs.Frames.{KeepsBeside, StandsForTheSame}
 use Rattle.nv_memory.proofs.Looks.{test_other}
-use Rattle.nv_memory.proofs.LogWrites.{AreApart, LiesApart, apart_of, logs_apart, log_beside, value_beside}
+use Rattle.nv_memory.proofs.LogWrites.{AreApart, LiesApart, apart_of, log_after_value, log_behind_number, log_beside, log_emptied, log_longer, logs_apart, value_beside}
 
 -- the seat belongs to a log
 pub record IsOfLogs (seat : Seat) : Type 0 where
@@ -121,13 +121,13 @@ keeps_beside s log seat value of apart = record {
   logs = λ other ne word. value_beside s (seats_of other) seat value (apart other ne) word;
 }
 
-length_apart : (log other : Log) → other ≢ log → LiesApart (seats_of other) (seats_of log).length
+pub length_apart : (log other : Log) → other ≢ log → LiesApart (seats_of other) (seats_of log).length
 length_apart log other ne = elim (logs_apart other log) [ inl same ↦ absurd (ne same) | inr apart ↦ apart.length ]
 
-number_apart : (log other : Log) (i : ℕ) → other ≢ log → LiesApart (seats_of other) ((seats_of log).number i)
+pub number_apart : (log other : Log) (i : ℕ) → other ≢ log → LiesApart (seats_of other) ((seats_of log).number i)
 number_apart log other i ne = elim (logs_apart other log) [ inl same ↦ absurd (ne same) | inr apart ↦ apart.number i ]
 
-value_apart : (log other : Log) (i : ℕ) → other ≢ log → LiesApart (seats_of other) ((seats_of log).value i)
+pub value_apart : (log other : Log) (i : ℕ) → other ≢ log → LiesApart (seats_of other) ((seats_of log).value i)
 value_apart log other i ne = elim (logs_apart other log) [ inl same ↦ absurd (ne same) | inr apart ↦ apart.value i ]
 
 pub length_keeps_beside : (s : State) (log : Log) (value : ℕ) → KeepsBeside log s (put s (set_to (seats_of log).length value))
@@ -253,6 +253,40 @@ module _ (s t : State) (own : Log) (keeps : KeepsBeside own s t) where
     place = rw (keeps.same_mark, keeps.same_next, keeps.same_opened, keeps.same_first, keeps.same_current) refl;
     held = held_kept s t keeps.slots keeps.same_mark keeps.same_head keeps.same_head_next keeps.same_tail keeps.entries;
   }
+
+-- ranges after each kind of write to a log
+pub range_after_value : (s : State) (log : Log) (i value : ℕ) → InRange s → InRange (put s (set_to ((seats_of log).value i) value))
+range_after_value s log i value r =
+    let seat = (seats_of log).value i in
+    range_kept s (put s (set_to seat value)) (beside_ranges s (put s (set_to seat value)) log (value_keeps_beside s log i value) r)
+    (ranges_after s log seat value (λ other ne. value_apart log other i ne)
+    (λ has. log_after_value s (seats_of log) (apart_of log) i value (r.logs log has)) r) r
+
+pub range_behind_number : (s : State) (log : Log) (i value : ℕ) → log_length s log ≤ i → InRange s
+    → InRange (put s (set_to ((seats_of log).number i) value))
+range_behind_number s log i value behind r =
+    let seat = (seats_of log).number i in
+    range_kept s (put s (set_to seat value)) (beside_ranges s (put s (set_to seat value)) log (number_keeps_beside s log i value) r)
+    (ranges_after s log seat value (λ other ne. number_apart log other i ne)
+    (λ has. log_behind_number s (seats_of log) (apart_of log) i value behind (r.logs log has)) r) r
+
+-- the length has the value, and the log is in range with it
+range_after_length : (s : State) (log : Log) (value : ℕ)
+    → (HasLog s.k log → IsLog (put s (set_to (seats_of log).length value)) (seats_of log)) → InRange s
+    → InRange (put s (set_to (seats_of log).length value))
+range_after_length s log value own r =
+    let seat = (seats_of log).length in
+    range_kept s (put s (set_to seat value)) (beside_ranges s (put s (set_to seat value)) log (length_keeps_beside s log value) r)
+    (ranges_after s log seat value (length_apart log) own r) r
+
+pub range_longer : (s : State) (log : Log) (word : ℕ) → word < s.n → log_value s log word ≡ None
+    → number_in s (seats_of log) (log_length s log) ≡ word → InRange s
+    → InRange (put s (set_to (seats_of log).length (log_length s log + 1)))
+range_longer s log word low none named r =
+    range_after_length s log (log_length s log + 1) (λ has. log_longer s (seats_of log) (apart_of log) word low none named (r.logs log has)) r
+
+pub range_emptied : (s : State) (log : Log) → InRange s → InRange (put s (set_to (seats_of log).length 0))
+range_emptied s log r = range_after_length s log 0 (λ has. log_emptied s (seats_of log) (apart_of log)) r
 
 -- seats of no log
 pub header_apart : (log : Log) (i : ℕ) → i ≢ 4 → i ≢ 5 → LiesApart (seats_of log) (Seat.Header i)

@@ -3,7 +3,7 @@ use Rattle.std.proofs.Common.{◌≡◌, ℕ, ◌<◌, length, refl, sym, ap, su
 use Rattle.std.specs.Prelude.{slice_index, slice_set}
 use Rattle.nv_memory.specs.declared.write.Write.{Write}
 use Rattle.nv_memory.specs.Seats.{Memory, Seat, IsMemory, address, is_seat, written}
-use Rattle.nv_memory.specs.State.{Change, PutsOneWord, Writes, cells, is_same, put, state, write_of}
+use Rattle.nv_memory.specs.State.{Change, PutsOneWord, Writes, cells, is_same, put, set_to, state, write_of}
 use Rattle.nv_memory.proofs.Seats.{address_one, is_itself, same_is, seat_inside}
 
 -- what stands at one seat after a write to another
@@ -39,3 +39,8 @@ puts_one_word m change write sizes w = subst (λ (other : Write). PutsOneWord m 
   within = seat_inside m.n m.k change.seat w.seat;
   state = state_after m change sizes w.seat;
 })
+
+-- a write whose address is that of a seat
+pub writes_at : (m : Memory) (seat : Seat) (value at word : ℕ) → is_seat m.n m.k seat ≡ true → at ≡ address m.n seat → word ≡ value
+    → Writes m (set_to seat value) (record { at = at; word = word })
+writes_at m seat value at word is there same = record { seat = is; is = rw (there, same) refl }

@@ -6,6 +6,12 @@ pub const INPUT_BYTES: usize = 262_144;
 /// Variable words of a program.
 pub const VARIABLE_WORDS: u16 = 256;
 
+/// Words of an array.
+pub const ARRAY_WORDS: u16 = 256;
+
+/// Turns of a loop.
+pub const LOOP_TURNS: u16 = 50_000;
+
 /// Tasks of a program, members of transactions among them.
 pub const TASKS: u16 = 64;
 

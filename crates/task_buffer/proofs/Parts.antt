@@ -1,5 +1,5 @@
 -- The write of a part, by its address.
-use Rattle.std.proofs.Common.{◌≡◌, ℕ, ◌<◌, refl, sym, ap, subst, ◌∙◌, Bool, true, false, Some, None, Option}
+use Rattle.std.proofs.Common.{◌≡◌, ℕ, ◌<◌, refl, sym, ap, subst, true, false, Some, None, Option}
 use Rattle.nv_memory.specs.declared.log.Log.{Log}
 use Rattle.nv_memory.specs.declared.write.Write.{Write}
 use Rattle.nv_memory.specs.Seats.{Memory, address}

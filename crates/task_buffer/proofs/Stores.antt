@@ -1,9 +1,9 @@
 -- What a part of a store, and the emptying write, make of the image.
-use Rattle.std.proofs.Common.{◌≡◌, ◌≢◌, ℕ, zero, suc, ◌+◌, ◌<◌, ◌≤◌, ◌==◌, refl, sym, ap, subst, ◌∙◌, arith, Bool, true, false, if◌then◌else◌, Some, None, Option}
+use Rattle.std.proofs.Common.{◌≡◌, ℕ, zero, suc, ◌+◌, ◌<◌, refl, sym, ap, subst, ◌∙◌, arith, Bool, true, false, Some, None, Option}
 use Rattle.nv_memory.specs.declared.log.Log.{Log}
 use Rattle.nv_memory.specs.declared.log.Log.TheVariants as log
 use Rattle.nv_memory.specs.State.{State, put, set_to}
-use Rattle.nv_memory.specs.Logs.{HasLog, log_index, log_length, log_value, number_in, pair_value_in, seats_of}
+use Rattle.nv_memory.specs.Logs.{log_index, log_length, log_value, number_in, pair_value_in, seats_of}
 use Rattle.nv_memory.specs.InRange.{InRange, IsClosed}
 use Rattle.nv_memory.proofs.Looks.{look_none, look_some}
 use Rattle.nv_memory.proofs.LogWrites.{apart_of, length_beside_number, length_beside_value, number_beside_value, number_written, value_behind_number, value_behind_value, value_emptied, value_longer, value_replaced, value_written}
@@ -26,8 +26,10 @@ module _ (s : State) (own : Log) (word value : ℕ) (r : InRange s) where
   numbers : log_value s own word ≡ None → Stores own word value 0 false s (put s (part_change s own word value 0))
   numbers none = let len = log_length s own in let same = value_behind_number s (seats_of own) (apart_of own) len word in record {
     log_after = λ other. same other (omega arith);
-    begun = λ d. (same word (omega arith) ∙ none,
-        rw (length_beside_number s (seats_of own) (apart_of own) len word) (number_written s (seats_of own) (apart_of own) len word));
+    begun = λ d. (
+      same word (omega arith) ∙ none,
+      rw (length_beside_number s (seats_of own) (apart_of own) len word) (number_written s (seats_of own) (apart_of own) len word),
+    );
     beside = number_keeps_beside s own len word;
     range = range_behind_number s own len word (omega arith) r;
     closed = closed_beside s _ own (number_keeps_beside s own len word);

@@ -1,5 +1,5 @@
 -- What the parts of a store, and the write that empties a log, make of the image.
-use Rattle.std.specs.Prelude.{ℕ, ◌+◌, ◌==◌, ◌<◌, ◌≡◌, ◌≢◌, Bool, true, false, Option, Some, ◌&&◌, if◌then◌else◌}
+use Rattle.std.specs.Prelude.{ℕ, ◌+◌, ◌==◌, ◌<◌, ◌≡◌, ◌≢◌, Bool, false, Some, ◌&&◌, if◌then◌else◌}
 use Rattle.nv_memory.specs.declared.log.Log.{Log}
 use Rattle.nv_memory.specs.declared.log.Log.TheVariants as log
 use Rattle.nv_memory.specs.State.{State, put, set_to}

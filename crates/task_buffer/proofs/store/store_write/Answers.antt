@@ -1,8 +1,8 @@
-use Rattle.std.proofs.Common.{◌≡◌, ◌<◌, ℕ, ap, sym, subst, ◌∙◌, None}
+use Rattle.std.proofs.Common.{ℕ, ap, sym, ◌∙◌}
 use Rattle.nv_memory.specs.declared.layout.Layout.{Layout}
 use Rattle.nv_memory.specs.Seats.{address}
 use Rattle.nv_memory.specs.State.{state}
-use Rattle.nv_memory.specs.Logs.{log_length, seats_of}
+use Rattle.nv_memory.specs.Logs.{seats_of}
 use Rattle.task_buffer.proofs.Parts.{ends_by_index, goes_on_at_first, room_in, writes_number, writes_value}
 use Rattle.task_buffer.proofs.store.store_write.Goals as goal
 

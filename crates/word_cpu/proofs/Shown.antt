@@ -1,5 +1,5 @@
 -- A step on a view is a step on what the view shows.
-use Rattle.std.proofs.Common.{◌≡◌, ◌+◌, ℕ, List, Bool, true, false, refl, sym, ap, ◌∙◌}
+use Rattle.std.proofs.Common.{◌≡◌, ◌+◌, ℕ, List, Bool, true, false, length, refl, sym, ap, subst, ◌∙◌}
 use Rattle.std.specs.Prelude.{Some, None, slice_index, slice_set}
 use Rattle.word_code.specs.Code.{Bodies}
 use Rattle.word_code.specs.Machine.{Move, State}
@@ -7,7 +7,8 @@ use Rattle.word_cpu.specs.Meaning.{Meaning, Shows}
 use Rattle.word_cpu.specs.declared.cpu.Cpu.{Cpu}
 use Rattle.word_cpu.specs.declared.turn.Turn.{Turn}
 use Rattle.word_cpu.specs.declared.turn.Turn.TheVariants.{Went, Storing, Ended}
-use Rattle.word_cpu.specs.Turning.{HasLoaded, HasStored, IsBegun, IsStep, IsStoring, Makes, StoresPart}
+use Rattle.word_cpu.specs.Turning.{CanStep, HasLoaded, HasStored, IsBegun, IsStep, IsStoring, Makes, StoresPart}
+use Rattle.word_cpu.specs.UnderWay.{IsReady}
 
 module _ {V W : Type 0} (meaning : Meaning V) (shown : Meaning W) (show : V → W) (shows : Shows meaning shown show)
     (before after : Cpu) (old new : V) where
@@ -38,7 +39,7 @@ module _ {V W : Type 0} (meaning : Meaning V) (shown : Meaning W) (show : V → 
     part = made.part;
     few = made.few;
     words_stay = words_stay made.words_stay;
-    is_begun = shows.begun new word value (before.part + 1) made.is_begun;
+    is_begun = (shows.begun new word value (before.part + 1)).0 made.is_begun;
     view = shows.stored old new word value before.part false made.view;
   }
   shown_part (Ended ending) word value next made = absurd made
@@ -52,7 +53,7 @@ module _ {V W : Type 0} (meaning : Meaning V) (shown : Meaning W) (show : V → 
   shown_begun : (part : ℕ) (move : Move) → IsBegun (meaning.begun new) part move → IsBegun (shown.begun (show new)) part move
   shown_begun part (Move.goes next) is = is
   shown_begun part (Move.loads word next) is = is
-  shown_begun part (Move.stores word value next) is = λ some. shows.begun new word value part (is some)
+  shown_begun part (Move.stores word value next) is = λ some. (shows.begun new word value part).0 (is some)
   shown_begun part (Move.ends ending) is = is
 
   pub shown_step : (code : Bodies) (turn : Turn) → IsStep meaning code before after old new turn → IsStep shown code before after (show old) (show new) turn
@@ -60,4 +61,18 @@ module _ {V W : Type 0} (meaning : Meaning V) (shown : Meaning W) (show : V → 
     body = step.body;
     makes = λ instr starts. shown_move turn _ (step.makes instr starts);
     is_begun = λ instr starts. shown_begun after.part _ (step.is_begun instr starts);
+  }
+
+-- a machine that is ready on what a view shows is ready on the view
+module _ {V W : Type 0} (meaning : Meaning V) (shown : Meaning W) (show : V → W) (shows : Shows meaning shown show) (view : V) where
+  begun_there : (part : ℕ) (move : Move) → IsBegun (shown.begun (show view)) part move → IsBegun (meaning.begun view) part move
+  begun_there part (Move.goes next) is = is
+  begun_there part (Move.loads word next) is = is
+  begun_there part (Move.stores word value next) is = λ some. (shows.begun view word value part).1 (is some)
+  begun_there part (Move.ends ending) is = is
+
+  pub ready_where_shown : (code : Bodies) (cpu : Cpu) → IsReady shown code cpu (show view) → IsReady meaning code cpu view
+  ready_where_shown code cpu ready = record {
+    can_step = subst (λ (words : List ℕ). CanStep code cpu (length words)) (sym (shows.words view)) ready.can_step;
+    is_begun = λ instr starts. begun_there cpu.part _ (ready.is_begun instr starts);
   }

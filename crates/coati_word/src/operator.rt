@@ -30,7 +30,8 @@ pub enum Op1 {
     Zero,
 }
 
-/// The value of a binary operator. Each has one on all words: sums wrap, and what divides by 0 is 0.
+/// The value of a binary operator. Each has one on all words: sums wrap, and what divides by 0 is
+/// 0.
 pub fn apply(op: Op, a: u16, b: u16) -> u16
     ensures { result ≡ operator_value op a b }
 {

@@ -1,12 +1,14 @@
 -- A refusal is one rule at one place.
 use Rattle.std.proofs.Common.{◌≡◌, ℕ, ◌<◌, ◌≤◌, List, [], refl, ap, sym, subst, ◌∙◌, arith, inl, inr, length}
-use Rattle.std.specs.Prelude.{Option, find, slice_index_or, ◌==◌, ◌∷◌, if◌then◌else◌}
+use Rattle.std.specs.Prelude.{Option, Result, Err, find, slice_index_or, ◌==◌, ◌∷◌, if◌then◌else◌}
 use Rattle.std.specs.Option.{option_map_or}
 use Rattle.std.proofs.lemmas.Bool.{cases_lt}
 use Rattle.std.proofs.lemmas.List.Elements.{All-contains}
 use Rattle.task_syntax.specs.declared.program.Program.{Program}
 use Rattle.task_check.specs.declared.rule.Rule.{Rule}
 use Rattle.task_check.specs.declared.rule.Rule.TheVariants.{TwiceNamed, Unknown, WrongKind, BadCount, BadBuffer, TooManyWords, TooManyTasks, NoEnding, EarlyEnding, IntoTx, TopReadsNv, GiveShape, LoopAssigned, TooManyLocals, TooDeepStack, TooLong}
+use Rattle.task_check.specs.declared.fault.CheckFault.{CheckFault}
+use Rattle.task_check.specs.declared.fault.CheckFault.TheVariants.{Rule as BreaksRule}
 use Rattle.task_check.specs.Accepted.{IsFirstBroken, TellsNumber, number_of, places}
 use Rattle.task_check.specs.Least.{IsLeast}
 use Rattle.task_check.specs.Measures.{too_long_places}
@@ -106,3 +108,10 @@ module _ (program : Program) (rule other : Rule) (at place : ℕ) (one : IsFirst
 
 pub refusal-is_one : RefusalIsOne
 refusal-is_one program rule other at place one two = are-same program rule other at place one two
+
+-- two refusals are one answer
+pub one-refusal : (program : Program) (rule other : Rule) (at place : ℕ) → IsFirstBroken program 1 17 rule at → IsFirstBroken program 1 17 other place →
+    ◌≡◌ {A = Result Program CheckFault} (Err (BreaksRule rule at)) (Err (BreaksRule other place))
+one-refusal program rule other at place one two =
+    let same = are-same program rule other at place one two in
+    ap (λ found. Err (BreaksRule found at)) same.rules ∙ ap (λ found. Err (BreaksRule other found)) same.places

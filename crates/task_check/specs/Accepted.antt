@@ -1,5 +1,5 @@
 -- Which programs are accepted, and how another one is refused: at the rule of least number that it breaks, at its least place.
-use Rattle.std.specs.Prelude.{ℕ, ◌≡◌, ◌≤◌, ◌<◌, ◌==◌, ⊤, List, [], ◌∷◌, map, find, slice_index_or, Option, Some, None}
+use Rattle.std.specs.Prelude.{ℕ, ◌≡◌, ◌≤◌, ◌<◌, ◌==◌, ⊤, List, [], ◌∷◌, map, find, slice_index_or, Option, Some, None, Result, Err}
 use Rattle.task_syntax.specs.declared.program.Program.{Program}
 use Rattle.task_check.specs.declared.rule.Rule.{Rule}
 use Rattle.task_check.specs.declared.rule.Rule.TheVariants.{TwiceNamed, Unknown, WrongKind, BadCount, BadBuffer, TooManyWords, TooManyTasks, NoEnding, EarlyEnding, IntoTx, TopReadsNv, GiveShape, LoopAssigned, TooManyLocals, TooDeepStack, TooLong}
@@ -90,3 +90,8 @@ IsAccepted program = Keeps program 1 17
 abbrev pub IsRefusal : Program → CheckFault → Type 0
 IsRefusal program (fault.Rule rule at) = IsFirstBroken program 1 17 rule at
 IsRefusal program fault.OutOfMemory = ⊤
+
+-- the answer is this one, unless memory was refused
+abbrev pub IsAnswer : Result Program CheckFault → Result Program CheckFault → Type 0
+IsAnswer (Err fault.OutOfMemory) answer = Unit {0}
+IsAnswer result answer = answer ≡ result

@@ -52,7 +52,7 @@ has_ending Bottom body = true
 abbrev pub no_ending : BodyRead → List ℕ
 no_ending body = if has_ending body.kind body.statements then [] else body.at ∷ []
 
--- where the body of a task or a top half doesn't end
+-- rule 8: where the body of a task or a top half doesn't end
 abbrev pub no_ending_places : Program → List ℕ
 no_ending_places program = flat_map no_ending (bodies program)
 
@@ -101,6 +101,6 @@ module _ (kind : Kind) where
 abbrev pub early_endings : BodyRead → List ℕ
 early_endings body = early_in_block body.kind body.statements true
 
--- where an ending isn't last in its body, or is none for a body of its kind
+-- rule 9: where an ending isn't last in its body, or is none for a body of its kind
 abbrev pub early_ending_places : Program → List ℕ
 early_ending_places program = flat_map early_endings (bodies program)

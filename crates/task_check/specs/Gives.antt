@@ -37,6 +37,6 @@ module _ (count : ℕ) where
 abbrev pub give_shape : Event → List ℕ
 give_shape event = fifth event.params ++ misgiven_in (length event.params) event.top
 
--- where a message has more than four words, or another count than its bottom half takes
+-- rule 12: where a message has more than four words, or another count than its bottom half takes
 abbrev pub give_shape_places : Program → List ℕ
 give_shape_places program = flat_map give_shape program.events

@@ -68,6 +68,6 @@ assigned_in_block block = in_block (map assigned_in block)
 abbrev pub loop_assigned : BodyRead → List ℕ
 loop_assigned body = assigned_in_block body.statements []
 
--- where a body assigns to the name of a loop that stands round the assignment
+-- rule 13: where a body assigns to the name of a loop that stands round the assignment
 abbrev pub loop_assigned_places : Program → List ℕ
 loop_assigned_places program = flat_map loop_assigned (bodies program)

@@ -17,7 +17,7 @@ above bound number at = if nat_lt bound number then at ∷ [] else []
 abbrev pub too_many_locals : BodyRead → List ℕ
 too_many_locals body = above 32 (local_count body.statements (length body.params)) body.at
 
--- where a body has more than 32 locals
+-- rule 14: where a body has more than 32 locals
 abbrev pub too_many_locals_places : Program → List ℕ
 too_many_locals_places program = flat_map too_many_locals (bodies program)
 
@@ -25,7 +25,7 @@ too_many_locals_places program = flat_map too_many_locals (bodies program)
 abbrev pub too_deep_stack : BodyRead → List ℕ
 too_deep_stack body = above 32 (body_depth body.statements) body.at
 
--- where a body needs more than 32 operand words
+-- rule 15: where a body needs more than 32 operand words
 abbrev pub too_deep_stack_places : Program → List ℕ
 too_deep_stack_places program = flat_map too_deep_stack (bodies program)
 
@@ -37,7 +37,7 @@ size_of program body = saturated (max (body_cost program body.statements body.ki
 abbrev pub too_long : Program → BodyRead → List (ℕ × ℕ)
 too_long program body = if nat_lt 50000 (size_of program body) then (body.at, size_of program body) ∷ [] else []
 
--- where a body is larger than 50,000, with its size
+-- rule 16: where a body is larger than 50,000, with its size
 abbrev pub too_long_places : Program → List (ℕ × ℕ)
 too_long_places program = flat_map (too_long program) (bodies program)
 

@@ -60,6 +60,6 @@ module _ (program : Program) where
   abbrev pub named_in_block : List Stmt → List ℕ
   named_in_block block = concat (map named_in block)
 
--- where a top half names a variable
+-- rule 11: where a top half names a variable
 abbrev pub top_reads_nv_places : Program → List ℕ
 top_reads_nv_places program = flat_map (λ event. named_in_block program event.top) program.events

@@ -57,6 +57,6 @@ enters_in_member program member = enters_in_block program member.0 member.1.body
 abbrev pub members : ℕ → List UnitDecl → List (Option ℕ × TaskDecl)
 members tx units = zip (memberships tx units) (flat_map tasks_of_unit units)
 
--- where `next` leads from outside to a member that isn't the first of its transaction
+-- rule 10: where `next` leads from outside to a member that isn't the first of its transaction
 abbrev pub into_tx_places : Program → List ℕ
 into_tx_places program = flat_map (enters_in_member program) (members 0 program.units)

@@ -1,9 +1,10 @@
-ghost use Rattle.std.specs.Prelude.{◌≡◌, ◌+◌, ◌<◌, ◌≤◌, length, slice_get, IfSome, Some};
+ghost use Rattle.std.specs.Prelude.{◌≡◌, ◌+◌, ◌<◌, ◌≤◌, length, slice_get, IfSome, IsTrue, Some};
 ghost use Rattle.std.specs.Option.{option_map};
 ghost use Rattle.task_syntax.specs.Names.{count_of, opening_values, task_of, tasks, word_count, words_of};
-ghost use Rattle.task_syntax.specs.Units.{first_task, transaction_of};
+ghost use Rattle.task_syntax.specs.Units.{first_task, statements_of, transaction_of};
 ghost use Rattle.task_check.specs.Accepted.{IsAccepted};
 ghost use Rattle.task_check.specs.Counts.{transactions};
+ghost use Rattle.task_check.specs.Messages.{HasShortMessages, statements_give};
 ghost use Rattle.task_check.specs.Numbers.{buffer_size, event_of, first_and_length};
 ghost use Rattle.task_check.specs.Sizes.{HasSizes};
 ghost use Rattle.task_check.specs.WellFormed.{IsWellFormed};
@@ -12,7 +13,7 @@ use crate::counts::task_at;
 use crate::lookups;
 use coati_word::limits::DEFAULT_BUFFER;
 use std::marker::Model;
-use task_syntax::{Event, NameText, Program, TaskDecl};
+use task_syntax::{Event, NameText, Program, Stmt, TaskDecl};
 
 /// A program that keeps all rules.
 #[derive(Debug, Drop)]
@@ -51,6 +52,7 @@ impl Checked {
         ensures accepted { IsAccepted self.now }
         ensures well_formed { IsWellFormed self.now }
         ensures sizes { HasSizes result.now }
+        ensures messages { HasShortMessages result.now }
     {
         &self.program
     }
@@ -106,10 +108,14 @@ impl Checked {
         lookups::transactions(program.units.as_slice())
     }
 
-    /// The first word of the variable of this name, and how many words an array has; none where no variable has the name.
+    /// The first word of the variable of this name, and how many words an array has; none where no
+    /// variable has the name.
     pub fn word_of(&self, name: &NameText) -> Option<(u16, Option<u16>)>
         ensures words { result ≡ option_map first_and_length (words_of self.now name.now) }
-        ensures within { IfSome result (λ words. words.0 + count_of words.1 ≤ word_count self.now.vars) }
+        ensures some { IfSome result (λ words. 0 < count_of words.1) }
+        ensures within { IfSome result (λ words. words.0 + count_of words.1
+            ≤ word_count self.now.vars) }
+        ensures most { IfSome result (λ words. words.0 + count_of words.1 ≤ 256) }
     {
         let program = self.program();
         lookups::word_of(program.vars.as_slice(), name)
@@ -132,6 +138,18 @@ impl Checked {
         match task_at(self.program(), usize::from(task)) {
             Some(found) => found,
             None => unreachable!(),
+        }
+    }
+
+    /// The statements of the task of a number; none where no task has it. A message in them has at
+    /// most four words.
+    pub fn task_body(&self, task: u16) -> &[Stmt]
+        ensures body { result.now ≡ statements_of (slice_get (tasks self.now) task) }
+        ensures messages { IsTrue (statements_give result.now) }
+    {
+        match task_at(self.program(), usize::from(task)) {
+            Some(found) => found.body.as_slice(),
+            None => &[],
         }
     }
 

@@ -1,5 +1,7 @@
-ghost use Rattle.std.specs.Prelude.{◌≡◌, IfErr, IfOk, OnOk};
-ghost use Rattle.task_check.specs.Accepted.{IsAccepted, IsFound, IsRefusal};
+ghost use Rattle.std.specs.Prelude.{◌≡◌, ℕ, Err, IfErr, IfOk, Ok, OnOk};
+ghost use Rattle.task_check.specs.declared.fault.CheckFault.TheVariants.{Rule as BreaksRule};
+ghost use Rattle.task_check.specs.declared.rule.Rule.{Rule};
+ghost use Rattle.task_check.specs.Accepted.{IsAccepted, IsAnswer, IsFirstBroken, IsFound, IsRefusal};
 ghost use Rattle.task_check.specs.WellFormed.{IsWellFormed};
 
 use crate::counts::{bad_buffer, bad_count, too_many_tasks, too_many_words};
@@ -10,13 +12,21 @@ use coati_word::OutOfMemory;
 use std::alloc::Global;
 use task_syntax::Program;
 
-/// The program, where it keeps all rules; else the first rule that it breaks, at its least place. The program is given up
-/// on a refusal.
+/// The program, where it keeps all rules; else the first rule that it breaks, at its least place.
+/// The program is given up on a refusal.
 pub fn check(alloc: Global, program: Program) -> Result<Checked, CheckFault>
     requires { IsWellFormed program }
+
+    // The answer is the program, which keeps all rules, or its refusal, unless memory was refused.
     ensures same { IfOk result (λ checked. checked ≡ program) }
     ensures accepted { OnOk result (IsAccepted program) }
     ensures refused { IfErr result (IsRefusal program) }
+
+    // A program that keeps all rules is the answer, and one that breaks a rule is refused at the
+    // first, unless memory was refused.
+    ensures accepts { IsAccepted program → IsAnswer result (Ok program) }
+    ensures refuses { (rule : Rule) (at : ℕ) → IsFirstBroken program 1 17 rule at
+        → IsAnswer result (Err (BreaksRule rule at)) }
 {
     match first_broken(alloc, &program) {
         Err(OutOfMemory) => Err(CheckFault::OutOfMemory),
@@ -38,7 +48,7 @@ fn first_broken(alloc: Global, program: &Program) -> Result<Option<(Rule, u32)>,
     Ok(measures(program))
 }
 
-/// The first broken rule of those on names and counts, at its least place.
+/// The first broken rule of 1 to 7, those on names and counts, at its least place.
 fn names_and_counts(alloc: Global, program: &Program) -> Result<Option<(Rule, u32)>, OutOfMemory>
     ensures { IfOk result (IsFound program.now 1 8) }
 {

@@ -7,5 +7,5 @@ mod words;
 
 pub(crate) use buffer::bad_buffer;
 pub(crate) use tasks::{task_at, too_many_tasks};
-pub(crate) use values::{bad_count, bad_turns};
+pub(crate) use values::bad_count;
 pub(crate) use words::too_many_words;

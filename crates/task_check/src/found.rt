@@ -9,8 +9,11 @@ use task_syntax::Name;
 /// The least places at which names break their rules.
 #[derive(Clone, Copy, Debug)]
 pub(crate) struct Found {
+    /// Rule 1.
     pub(crate) twice_named: Option<u32>,
+    /// Rule 2.
     pub(crate) unknown: Option<u32>,
+    /// Rule 3.
     pub(crate) wrong_kind: Option<u32>,
 }
 
@@ -29,7 +32,8 @@ impl Found {
 
     /// Joins what a name breaks that has this meaning, where it is in scope.
     pub(crate) fn note(&mut self, name: &Name, role: Role, meaning: Option<Meaning>)
-        ensures { self.new ≡ joined self.old (found_among (record { name = name.now; role = role; meaning = meaning } ∷ [])) }
+        ensures { self.new ≡ joined self.old
+            (found_among (record { name = name.now; role = role; meaning = meaning } ∷ [])) }
     {
         let at = name.at;
         self.twice_named = lesser(

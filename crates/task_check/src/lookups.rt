@@ -7,6 +7,7 @@ ghost use Rattle.task_syntax.specs.Names.{count_of, first_values, given_values, 
 ghost use Rattle.task_syntax.specs.Units.{first_from, memberships};
 ghost use Rattle.task_check.specs.Counts.{transactions_of_unit};
 ghost use Rattle.task_check.specs.Numbers.{event_from, first_and_length};
+ghost use Rattle.task_check.specs.Sizes.{GivenFits};
 
 use crate::rules::{count_with, own_number};
 use task_syntax::{Event, Init, NameText, TaskDecl, UnitDecl, Var};
@@ -25,9 +26,12 @@ pub(crate) fn words(vars: &[Var]) -> u16
 
 /// The first word of the variable of a name, and how many an array has.
 pub(crate) fn word_of(vars: &[Var], name: &NameText) -> Option<(u16, Option<u16>)>
-    requires { word_count vars.now ≤ 256 }
+    requires few { word_count vars.now ≤ 256 }
+    requires full { All (λ (var : Var). 0 < count_of var.length) vars.now }
     ensures words { result ≡ option_map first_and_length (words_from 0 vars.now name.now) }
+    ensures some { IfSome result (λ words. 0 < count_of words.1) }
     ensures within { IfSome result (λ words. words.0 + count_of words.1 ≤ word_count vars.now) }
+    ensures most { IfSome result (λ words. words.0 + count_of words.1 ≤ 256) }
 {
     let mut first = 0;
     for var in vars {
@@ -42,7 +46,7 @@ pub(crate) fn word_of(vars: &[Var], name: &NameText) -> Option<(u16, Option<u16>
 /// What a word holds at first.
 pub(crate) fn opening(vars: &[Var], word: u16) -> u16
     requires within { word < word_count vars.now }
-    requires fit { All (λ (var : Var). length (given_values var.init) ≤ count_of var.length) vars.now }
+    requires fit { All GivenFits vars.now }
     ensures { slice_get (flat_map first_values vars.now) word ≡ Some result }
 {
     let mut left = word;

@@ -12,11 +12,13 @@ use coati_word::OutOfMemory;
 use std::alloc::Global;
 use task_syntax::{Event, Name, Program, Stmt, TaskDecl, TxDecl, UnitDecl, Var};
 
-/// The least places at which the names of a program break their rules.
+/// Rules 1 to 3: the least places at which the names of a program break them.
 pub(crate) fn names(alloc: Global, program: &Program) -> Result<Found, OutOfMemory>
-    ensures twice_named { IfOk result (λ found. IsLeastOf (twice_named_places program.now) found.twice_named) }
+    ensures twice_named { IfOk result (λ found.
+        IsLeastOf (twice_named_places program.now) found.twice_named) }
     ensures unknown { IfOk result (λ found. IsLeastOf (unknown_places program.now) found.unknown) }
-    ensures wrong_kind { IfOk result (λ found. IsLeastOf (wrong_kind_places program.now) found.wrong_kind) }
+    ensures wrong_kind { IfOk result (λ found.
+        IsLeastOf (wrong_kind_places program.now) found.wrong_kind) }
 {
     let mut walk = Walk::new(alloc);
     globals(&mut walk, program)?;
@@ -90,7 +92,9 @@ fn declare_unit<'a>(walk: &mut Walk<'a>, unit: &'a UnitDecl) -> Result<(), OutOf
 /// The name of a transaction, and those of its tasks.
 #[tactic(auto, using(crate::proofs::Walking::naming))]
 fn transaction<'a>(walk: &mut Walk<'a>, tx: &'a TxDecl) -> Result<(), OutOfMemory>
-    ensures { OnOk result (walk.new ≡ behind (chain (declares meaning.Transaction tx.now.name) (in_turn (map task_part tx.now.tasks))) walk.old) }
+    ensures { OnOk result (walk.new ≡ behind
+        (chain (declares meaning.Transaction tx.now.name) (in_turn (map task_part tx.now.tasks)))
+        walk.old) }
 {
     walk.declare(&tx.name, Meaning::Transaction)?;
     members(walk, tx.tasks.as_slice())
@@ -136,7 +140,9 @@ fn halves_of<'a>(walk: &mut Walk<'a>, event: &'a Event) -> Result<(), OutOfMemor
 
 #[tactic(auto, using(crate::proofs::Walking::naming))]
 fn bottom<'a>(walk: &mut Walk<'a>, params: &'a [Name], body: &'a [Stmt]) -> Result<(), OutOfMemory>
-    ensures { OnOk result (walk.new ≡ behind (within (chain (declares_all meaning.Local params.now) (statements_part body.now))) walk.old) }
+    ensures { OnOk result (walk.new
+        ≡ behind (within (chain (declares_all meaning.Local params.now) (statements_part body.now)))
+        walk.old) }
 {
     let outside = walk.scope.len();
     parameters(walk, params)?;

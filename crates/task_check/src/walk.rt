@@ -122,7 +122,9 @@ impl<'a> Walk<'a> {
         name: &'a Name,
         block: &'a [Stmt],
     ) -> Result<(), OutOfMemory>
-        ensures { OnOk result (self.new ≡ behind (within (chain (declares meaning.Local name.now) (statements_part block.now))) self.old) }
+        ensures { OnOk result (self.new
+            ≡ behind (within (chain (declares meaning.Local name.now) (statements_part block.now)))
+            self.old) }
     {
         let outside = self.scope.len();
         self.declare(name, Meaning::Local)?;

@@ -5,7 +5,7 @@ use crate::least::place_unless;
 use coati_word::limits::BUFFER;
 use task_syntax::Program;
 
-/// Where the buffer isn't 1 to 32.
+/// Rule 5: where the buffer isn't 1 to 32.
 #[tactic(auto, using(crate::proofs::LeastParts::IsLeastOf_least))]
 pub(crate) fn bad_buffer(program: &Program) -> Option<u32>
     ensures { IsLeastOf (bad_buffer_places program.now) result }

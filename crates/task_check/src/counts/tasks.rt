@@ -8,7 +8,7 @@ use crate::least::lesser;
 use coati_word::limits::{EVENTS, TASKS, TRANSACTIONS};
 use task_syntax::{Event, Program, TaskDecl, TxDecl, UnitDecl};
 
-/// The 65th task, the 17th event or the 17th transaction.
+/// Rule 7: the 65th task, the 17th event or the 17th transaction.
 pub(crate) fn too_many_tasks(program: &Program) -> Option<u32>
     ensures { IsLeastOf (too_many_tasks_places program.now) result }
 {
@@ -18,7 +18,8 @@ pub(crate) fn too_many_tasks(program: &Program) -> Option<u32>
 
 /// The 65th task.
 fn late_task(program: &Program) -> Option<u32>
-    ensures { result ≡ least (place_of (λ (task : TaskDecl). task.name) (slice_get (tasks program.now) 64)) }
+    ensures { result ≡ least
+        (place_of (λ (task : TaskDecl). task.name) (slice_get (tasks program.now) 64)) }
 {
     let task = task_at(program, usize::from(TASKS))?;
     Some(task.name.at)
@@ -34,7 +35,8 @@ fn late_event(events: &[Event]) -> Option<u32>
 
 /// The 17th transaction.
 fn late_transaction(program: &Program) -> Option<u32>
-    ensures { result ≡ least (place_of (λ (tx : TxDecl). tx.name) (slice_get (transactions program.now) 16)) }
+    ensures { result ≡ least
+        (place_of (λ (tx : TxDecl). tx.name) (slice_get (transactions program.now) 16)) }
 {
     let tx = transaction_at(program, usize::from(TRANSACTIONS))?;
     Some(tx.name.at)

@@ -5,7 +5,7 @@ use crate::least::{lesser, place_unless};
 use coati_word::limits::VARIABLE_WORDS;
 use task_syntax::Program;
 
-/// The variable with which there are more than 256 words.
+/// Rule 6: the variable with which there are more than 256 words.
 pub(crate) fn too_many_words(program: &Program) -> Option<u32>
     ensures { IsLeastOf (too_many_words_places program.now) result }
 {

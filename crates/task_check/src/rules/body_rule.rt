@@ -6,7 +6,7 @@ use super::body::Body;
 use super::endings::{early_endings, no_ending};
 use super::loops::loop_assigned;
 use super::measures::{too_deep_stack, too_many_locals};
-use crate::counts::bad_turns;
+use super::turns::bad_turns;
 
 /// The rules that are read in each body by itself.
 #[derive(Clone, Copy)]

@@ -1,30 +1,11 @@
 ghost use Rattle.std.specs.Prelude.{◌≡◌, ◌+◌, ◌<◌, ◌&&◌, drop, length};
 ghost use Rattle.task_check.specs.BodyRules.{read};
-ghost use Rattle.task_check.specs.Endings.{block_ends, has_ending, statement_ends, early_in, early_in_block, is_last, early_endings, early_ending_places, no_ending, no_ending_places};
-ghost use Rattle.task_check.specs.Least.{IsLeastOf};
+ghost use Rattle.task_check.specs.Endings.{block_ends, has_ending, statement_ends, early_in, early_in_block, is_last, early_endings, no_ending};
 ghost use Rattle.task_check.specs.Least.{least};
 
-use super::bodies::least_in_bodies;
 use super::body::Body;
-use super::body_rule::BodyRule;
 use crate::least::{lesser, place_unless};
-use task_syntax::{Kind, Program, Stmt};
-
-/// The least name of a task or an event whose task or top half doesn't end.
-#[tactic(auto, using(crate::proofs::LeastParts::IsLeastOf_least))]
-pub(crate) fn least_without_ending(program: &Program) -> Option<u32>
-    ensures { IsLeastOf (no_ending_places program.now) result }
-{
-    least_in_bodies(BodyRule::NoEnding, program)
-}
-
-/// The least ending that isn't last in a body of its kind.
-#[tactic(auto, using(crate::proofs::LeastParts::IsLeastOf_least))]
-pub(crate) fn least_early_ending(program: &Program) -> Option<u32>
-    ensures { IsLeastOf (early_ending_places program.now) result }
-{
-    least_in_bodies(BodyRule::EarlyEnding, program)
-}
+use task_syntax::{Kind, Stmt};
 
 /// The place of the body's name, where it lacks an ending.
 pub(crate) fn no_ending(body: &Body<'_>) -> Option<u32>

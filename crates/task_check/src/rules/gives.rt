@@ -6,7 +6,8 @@ use crate::least::lesser;
 use coati_word::limits::MESSAGE_WORDS;
 use task_syntax::{Event, Name, Program, Stmt};
 
-/// The least fifth parameter of a bottom half, or `give` of another count of words than the parameters.
+/// Rule 12: the least fifth parameter of a bottom half, or `give` of another count of words than
+/// the parameters.
 #[tactic(auto, using(crate::proofs::LeastParts::IsLeastOf_least))]
 pub(crate) fn least_misgiven(program: &Program) -> Option<u32>
     ensures { IsLeastOf (give_shape_places program.now) result }

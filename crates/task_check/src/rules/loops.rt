@@ -1,22 +1,12 @@
 ghost use Rattle.std.specs.Prelude.{◌≡◌, [], ◌∷◌, flat_map};
 ghost use Rattle.task_check.specs.Assignments.{assigns_to, block_assigns_to};
 ghost use Rattle.task_check.specs.BodyRules.{read};
-ghost use Rattle.task_check.specs.Least.{IsLeastOf, least};
-ghost use Rattle.task_check.specs.Loops.{assigned_in, assigned_in_block, loop_assigned, loop_assigned_places, place_among, plain_name};
+ghost use Rattle.task_check.specs.Least.{least};
+ghost use Rattle.task_check.specs.Loops.{assigned_in, assigned_in_block, loop_assigned, place_among, plain_name};
 
-use super::bodies::least_in_bodies;
 use super::body::Body;
-use super::body_rule::BodyRule;
 use crate::least::lesser;
-use task_syntax::{NameText, Place, Program, Stmt};
-
-/// The least assigned name that is an enclosing loop's.
-#[tactic(auto, using(crate::proofs::LeastParts::IsLeastOf_least))]
-pub(crate) fn least_loop_assigned(program: &Program) -> Option<u32>
-    ensures { IsLeastOf (loop_assigned_places program.now) result }
-{
-    least_in_bodies(BodyRule::LoopAssigned, program)
-}
+use task_syntax::{NameText, Place, Stmt};
 
 /// The least assigned name of a body that is an enclosing loop's.
 pub(crate) fn loop_assigned(body: &Body<'_>) -> Option<u32>

@@ -3,30 +3,12 @@ ghost use Rattle.task_syntax.specs.Names.{tasks_of_unit};
 ghost use Rattle.task_syntax.specs.Saturated.{saturated};
 ghost use Rattle.task_check.specs.Bodies.{halves, task_body};
 ghost use Rattle.task_check.specs.BodyRules.{read};
-ghost use Rattle.task_check.specs.Least.{IsLeastOf, least};
-ghost use Rattle.task_check.specs.Measures.{IsFirstLeastOf, above, first_least, nearer, too_deep_stack, too_deep_stack_places, too_long, too_long_places, too_many_locals, too_many_locals_places};
+ghost use Rattle.task_check.specs.Least.{least};
+ghost use Rattle.task_check.specs.Measures.{IsFirstLeastOf, above, first_least, nearer, too_deep_stack, too_long, too_long_places, too_many_locals};
 
-use super::bodies::least_in_bodies;
 use super::body::Body;
-use super::body_rule::BodyRule;
 use coati_word::limits::{BODY_COST, LOCALS, OPERANDS};
 use task_syntax::{Event, Name, Program, TaskDecl, UnitDecl, code_words, cost, depth, locals};
-
-/// The least name of a task or an event with more than 32 locals in a body.
-#[tactic(auto, using(crate::proofs::LeastParts::IsLeastOf_least))]
-pub(crate) fn least_with_too_many_locals(program: &Program) -> Option<u32>
-    ensures { IsLeastOf (too_many_locals_places program.now) result }
-{
-    least_in_bodies(BodyRule::TooManyLocals, program)
-}
-
-/// The least name of a task or an event with a body that needs more than 32 operand words.
-#[tactic(auto, using(crate::proofs::LeastParts::IsLeastOf_least))]
-pub(crate) fn least_with_too_deep_stack(program: &Program) -> Option<u32>
-    ensures { IsLeastOf (too_deep_stack_places program.now) result }
-{
-    least_in_bodies(BodyRule::TooDeepStack, program)
-}
 
 /// The place of the body's name, where it has more than 32 locals.
 #[tactic(auto, using(crate::proofs::Bounds::bounds))]
@@ -62,7 +44,8 @@ fn above(bound: u32, number: u32, at: u32) -> Option<u32>
     if number > bound { Some(at) } else { None }
 }
 
-/// The least name of a task or an event with a body that is too long, and the body's size; the first of two at one place.
+/// Rule 16: the least name of a task or an event with a body that is too long, and the body's size;
+/// the first of two at one place.
 #[tactic(auto, using(crate::proofs::SizeParts::IsFirstLeastOf_first_least))]
 pub(crate) fn first_too_long(program: &Program) -> Option<(u32, u32)>
     ensures { IsFirstLeastOf (too_long_places program.now) result }
@@ -72,7 +55,8 @@ pub(crate) fn first_too_long(program: &Program) -> Option<(u32, u32)>
 }
 
 fn too_long_units(program: &Program, units: &[UnitDecl]) -> Option<(u32, u32)>
-    ensures { result ≡ first_least (flat_map (too_long program.now) (map task_body (flat_map tasks_of_unit units.now))) }
+    ensures { result ≡ first_least (flat_map (too_long program.now)
+        (map task_body (flat_map tasks_of_unit units.now))) }
 {
     let mut found = None;
     for unit in units {

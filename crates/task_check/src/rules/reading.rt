@@ -1,15 +1,18 @@
 ghost use Rattle.task_check.specs.Accepted.{IsFound};
 
-use super::endings::{least_early_ending, least_without_ending};
+use super::bodies::{
+    least_early_ending, least_loop_assigned, least_with_too_deep_stack, least_with_too_many_locals,
+    least_without_ending,
+};
 use super::gives::least_misgiven;
-use super::loops::least_loop_assigned;
-use super::measures::{first_too_long, least_with_too_deep_stack, least_with_too_many_locals};
+use super::measures::first_too_long;
 use super::tops::least_variable_in_top;
 use super::transitions::least_into_tx;
 use crate::Rule;
 use task_syntax::Program;
 
-/// The first broken rule of those on endings, transitions, top halves and loops, at its least place.
+/// The first broken rule of 8 to 13, those on endings, transitions, top halves, messages and loops,
+/// at its least place.
 pub(crate) fn endings_and_shapes(program: &Program) -> Option<(Rule, u32)>
     ensures { IsFound program.now 8 14 result }
 {
@@ -34,7 +37,7 @@ pub(crate) fn endings_and_shapes(program: &Program) -> Option<(Rule, u32)>
     None
 }
 
-/// The first broken rule of those on how large a body may be, at its least place.
+/// The first broken rule of 14 to 16, those on how large a body may be, at its least place.
 pub(crate) fn measures(program: &Program) -> Option<(Rule, u32)>
     ensures { IsFound program.now 14 17 result }
 {

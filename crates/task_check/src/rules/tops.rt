@@ -8,7 +8,7 @@ ghost use Rattle.task_check.specs.Tops.{in_expression, in_expressions, in_place,
 use crate::least::lesser;
 use task_syntax::{Event, Expr, Name, NameText, Place, Program, Stmt, Var};
 
-/// The least name of a variable in a top half.
+/// Rule 11: the least name of a variable in a top half.
 #[tactic(auto, using(crate::proofs::LeastParts::IsLeastOf_least))]
 pub(crate) fn least_variable_in_top(program: &Program) -> Option<u32>
     ensures { IsLeastOf (top_reads_nv_places program.now) result }

@@ -7,7 +7,8 @@ ghost use Rattle.task_check.specs.UnitWalk.{count_with, own_number};
 use crate::least::lesser;
 use task_syntax::{NameText, Program, Stmt, TaskDecl, UnitDecl};
 
-/// The least named task that is entered from outside its transaction, though it isn't the first there.
+/// Rule 10: the least named task that is entered from outside its transaction, though it isn't the
+/// first there.
 #[tactic(auto, using(crate::proofs::LeastParts::IsLeastOf_least))]
 pub(crate) fn least_into_tx(program: &Program) -> Option<u32>
     ensures { IsLeastOf (into_tx_places program.now) result }
@@ -29,7 +30,8 @@ fn least_in_units(program: &Program, units: &[UnitDecl]) -> Option<u32>
 }
 
 fn enters_in_tasks(program: &Program, own: Option<usize>, tasks: &[TaskDecl]) -> Option<u32>
-    ensures { result ≡ least (flat_map (λ task. enters_in_member program.now (own, task)) tasks.now) }
+    ensures { result ≡ least
+        (flat_map (λ task. enters_in_member program.now (own, task)) tasks.now) }
 {
     let mut found = None;
     for task in tasks {
@@ -59,7 +61,8 @@ pub(crate) fn count_with(unit: &UnitDecl, tx: usize) -> usize
     }
 }
 
-/// The least named task in a block that is entered from outside its transaction; the block is in a task of `own`.
+/// The least named task in a block that is entered from outside its transaction; the block is in a
+/// task of `own`.
 #[cycle(enters)]
 fn enters_in_block(program: &Program, own: Option<usize>, block: &[Stmt]) -> Option<u32>
     ensures { result ≡ least (enters_in_block program.now own block.now) }

@@ -3,7 +3,7 @@ use Rattle.task_syntax.specs.declared.statement.Stmt.TheVariants.{If}
 use Rattle.task_check.specs.Counts.{bad_loops, bad_loops_among}
 use Rattle.task_check.specs.Least.{least, lesser}
 use Rattle.task_check.proofs.CountParts.{bad_loops-if_else, loops-from}
-use Rattle.task_check.proofs.counts.values.+bad_loops.Goals as goal
+use Rattle.task_check.proofs.rules.turns.+bad_loops.Goals as goal
 
 pub bad_loops-returns-in-Some : goal.bad_loops-returns-in-Some
 bad_loops-returns-in-Some t c =

@@ -1,5 +1,5 @@
-pub mod Aiming
 pub mod Bodies
+pub mod Elements
 pub mod Gifts
 pub mod Giving
 pub mod Keeping
@@ -11,7 +11,6 @@ pub mod Reaching
 pub mod Rests
 pub mod Rising
 pub mod Steps
-pub mod Tasks
 pub mod Telling
 pub mod Ways
 pub mod Zeros

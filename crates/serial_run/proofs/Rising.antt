@@ -1,5 +1,5 @@
 -- The marked words, in their order.
-use Rattle.std.proofs.Common.{◌≡◌, ◌<◌, ◌≤◌, ◌+◌, ℕ, zero, suc, List, [], ◌∷◌, ◌++◌, length, refl, sym, ap, arith, inl, inr, Bool, true, false, length-append}
+use Rattle.std.proofs.Common.{◌≡◌, ◌<◌, ◌≤◌, ◌+◌, ℕ, zero, suc, List, [], ◌∷◌, ◌++◌, length, refl, sym, arith, inl, inr, Bool, true, false, length-append}
 use Rattle.std.specs.Prelude.{Contains, slice_index, if◌then◌else◌}
 use Rattle.std.specs.List.Sorted.{IsStrictlyIncreasing}
 use Rattle.std.proofs.Math.Nat.{eq-or-lt_of_le}
@@ -8,9 +8,8 @@ use Rattle.std.proofs.lemmas.List.{append-nil}
 use Rattle.std.proofs.lemmas.List.Elements.{Contains-append_left, Contains-append_right, Contains-append_cases}
 use Rattle.std.proofs.Math.ListN.{get_or-eq_default}
 use Rattle.task_syntax.proofs.Moments.{Contains-head, Contains-tail}
-use Rattle.serial_run.specs.declared.kept.Touch.{Touch}
 use Rattle.serial_run.specs.Moments.{Marks}
-use Rattle.serial_run.specs.Runs.{untouched, shared_among, written_among}
+use Rattle.serial_run.specs.Runs.{marks_of}
 use Rattle.serial_run.specs.Touched.{marked_below, TellsWords}
 
 get-front : (xs : List ℕ) (x at : ℕ) → at < length xs → slice_index (xs ++ x ∷ []) at ≡ slice_index xs at
@@ -100,8 +99,5 @@ tells-below count marks rest =
     }
 
 -- no word behind the marks is marked
-pub shared-past : (touches : List Touch) (word : ℕ) → length touches ≤ word → shared_among touches word ≡ false
-shared-past touches word past = ap (λ (touch : Touch). touch.shared) (get_or-eq_default touches untouched past)
-
-pub written-past : (touches : List Touch) (word : ℕ) → length touches ≤ word → written_among touches word ≡ false
-written-past touches word past = ap (λ (touch : Touch). touch.written) (get_or-eq_default touches untouched past)
+pub marks-past : (marks : List Bool) (word : ℕ) → length marks ≤ word → marks_of marks word ≡ false
+marks-past marks word past = get_or-eq_default marks false past

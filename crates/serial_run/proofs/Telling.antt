@@ -1,48 +1,28 @@
 -- What is told of a run.
-use Rattle.std.proofs.Common.{◌≡◌, ℕ, List, [], length, refl, sym, ap, subst, ◌∙◌, false}
+use Rattle.std.proofs.Common.{◌≡◌, ℕ, List, [], refl, ap, subst, ◌∙◌, false}
 use Rattle.std.specs.Prelude.{slice_index, Some}
-use Rattle.coati_word.specs.declared.reading.Reading.{Reading}
 use Rattle.coati_word.specs.declared.ending.Ending.{Ending}
 use Rattle.task_syntax.specs.declared.program.Program.{Program}
 use Rattle.task_syntax.specs.Course.{Course, Store, Access, accesses, answer}
 use Rattle.task_syntax.specs.Units.{Reached, is_inside, tasks_effect, whole_effect}
 use Rattle.task_syntax.specs.Written.{is_shared, is_written}
 use Rattle.serial_run.specs.declared.outcome.Outcome.{Outcome}
-use Rattle.serial_run.specs.Moments.{KeepsReadings, KeepsTouches, Marks, Moment, Notes, behind, behind_all, end_of, no_marks, reading_from, touching_from}
+use Rattle.serial_run.specs.Moments.{Leaves, Moment, Notes, behind, behind_all, end_of, readings_in, reading_from, shared_in, touching_from, written_in}
 use Rattle.serial_run.specs.Outcomes.{Tells}
 use Rattle.serial_run.specs.Units.{TasksLead}
 use Rattle.serial_run.proofs.Keeping.{kept-behind_all, noted-readings, marks-are}
 use Rattle.serial_run.proofs.Steps.{count-behind_all, store-behind_all}
 
--- the readings of notes
-abbrev pub readings_in : Notes → List Reading
-readings_in (Notes.all_readings before) = before
-readings_in (Notes.touched shared written) = []
-
--- the marks of notes
-abbrev pub shared_in : Notes → Marks
-shared_in (Notes.all_readings before) = no_marks
-shared_in (Notes.touched shared written) = shared
-
-abbrev pub written_in : Notes → Marks
-written_in (Notes.all_readings before) = no_marks
-written_in (Notes.touched shared written) = written
-
-module _ (before : List ℕ) (done : List Access) (n : Moment) (came : n ≡ behind_all done (reading_from before)) where
-  pub keeps-readings : KeepsReadings n.kept
-  keeps-readings = rw (came, kept-behind_all done (reading_from before), noted-readings done []) tt
-
 module _ (before words : List ℕ) (done : List Access) (ending : Ending) (outcome : Outcome) (n : Moment)
     (came : n ≡ behind_all done (reading_from before)) where
-  pub tells : n ≡ record { count = length words; store = slice_index words; kept = Notes.all_readings outcome.readings } → outcome.ending ≡ ending → Tells before done ending words outcome
-  tells is ends =
-      let last : record { count = length words; store = slice_index words; kept = Notes.all_readings outcome.readings } ≡ behind_all done (reading_from before) = sym is ∙ came in
-      record {
-        store_after = ap (λ (m : Moment). m.store) last ∙ store-behind_all done (reading_from before);
-        words = ap (λ (m : Moment). m.count) last ∙ count-behind_all done (reading_from before);
-        readings_told = ap (λ (m : Moment). readings_in m.kept) last ∙ ap readings_in (kept-behind_all done (reading_from before) ∙ noted-readings done []);
-        ending_told = ends;
-      }
+  pub tells : Leaves n words outcome.readings → outcome.ending ≡ ending → Tells before done ending words outcome
+  tells left ends = record {
+    store_after = left.store ∙ ap (λ (m : Moment). m.store) came ∙ store-behind_all done (reading_from before);
+    words = left.count ∙ ap (λ (m : Moment). m.count) came ∙ count-behind_all done (reading_from before);
+    readings_told =
+        left.readings_kept ∙ ap (λ (m : Moment). readings_in m.kept) came ∙ ap readings_in (kept-behind_all done (reading_from before) ∙ noted-readings done []);
+    ending_told = ends;
+  }
 
 -- tasks of a unit that began on these words
 pub reached-from : (program : Program) (task count place : ℕ) (m begun n : Moment) → m ≡ begun → TasksLead program task m count n place → TasksLead program task begun count n place
@@ -52,14 +32,11 @@ module _ (before : List ℕ) (done : List Access) (n : Moment) (came : n ≡ beh
   touched-is : n.kept ≡ Notes.touched (is_shared done) (is_written done)
   touched-is = ap (λ (m : Moment). m.kept) came ∙ kept-behind_all done (touching_from before) ∙ marks-are done
 
-  pub keeps-touches : KeepsTouches n.kept
-  keeps-touches = rw touched-is tt
+  pub shared-is : shared_in n.kept ≡ is_shared done
+  shared-is = ap shared_in touched-is
 
-  pub shared-is : (shared written : Marks) → n.kept ≡ Notes.touched shared written → shared ≡ is_shared done
-  shared-is shared written is = ap shared_in (sym is ∙ touched-is)
-
-  pub written-is : (shared written : Marks) → n.kept ≡ Notes.touched shared written → written ≡ is_written done
-  written-is shared written is = ap written_in (sym is ∙ touched-is)
+  pub written-is : written_in n.kept ≡ is_written done
+  written-is = ap written_in touched-is
 
 -- a course that runs from a moment on
 pub came-behind : {A : Type 0} (course : Course A) (m : Moment) → behind course m ≡ behind_all (accesses course m.store) m

@@ -1,6 +1,6 @@
 -- How far a run has come: the store there, and what is kept of the accesses before. Notes are the readings, or else which
 -- words were read before they were written, and which were written.
-use Rattle.std.specs.Prelude.{ℕ, ◌==◌, ⊤, Bool, true, false, List, [], ◌∷◌, ◌++◌, length, slice_index, if◌then◌else◌}
+use Rattle.std.specs.Prelude.{ℕ, ◌==◌, Bool, true, false, List, [], ◌∷◌, ◌++◌, length, slice_index, if◌then◌else◌, ◌≡◌}
 use Rattle.coati_word.specs.declared.reading.Reading.{Reading}
 use Rattle.task_syntax.specs.Course.{Course, Store, put, Access, accesses, answer}
 
@@ -28,19 +28,31 @@ noted (Access.wrote word value) (Notes.all_readings before) = Notes.all_readings
 noted (Access.read word value) (Notes.touched shared written) = Notes.touched (if written word then shared else marked word shared) written
 noted (Access.wrote word value) (Notes.touched shared written) = Notes.touched shared (marked word written)
 
-abbrev pub KeepsReadings : Notes → Type 0
-KeepsReadings (Notes.all_readings before) = ⊤
-KeepsReadings (Notes.touched shared written) = ⊥
+-- the readings that are kept
+abbrev pub readings_in : Notes → List Reading
+readings_in (Notes.all_readings before) = before
+readings_in (Notes.touched shared written) = []
 
-abbrev pub KeepsTouches : Notes → Type 0
-KeepsTouches (Notes.all_readings before) = ⊥
-KeepsTouches (Notes.touched shared written) = ⊤
+-- the marks that are kept
+abbrev pub shared_in : Notes → Marks
+shared_in (Notes.all_readings before) = no_marks
+shared_in (Notes.touched shared written) = shared
+
+abbrev pub written_in : Notes → Marks
+written_in (Notes.all_readings before) = no_marks
+written_in (Notes.touched shared written) = written
 
 -- a moment of a run, with how many words the store has
 pub record Moment : Type 0 where
   pub count : ℕ
   pub store : Store
   pub kept : Notes
+
+-- words and readings in which a run has ended
+pub record Leaves (m : Moment) (words : List ℕ) (readings : List Reading) : Type 0 where
+  pub count : length words ≡ m.count
+  pub store : slice_index words ≡ m.store
+  pub readings_kept : readings ≡ readings_in m.kept
 
 -- the moment at which a run begins whose readings are kept
 abbrev pub reading_from : List ℕ → Moment

@@ -2,7 +2,7 @@
 use Rattle.std.specs.Prelude.{ℕ, ◌≡◌, ◌==◌, List, length, slice_index, Option, Some, None, if◌then◌else◌}
 use Rattle.coati_word.specs.declared.ending.Ending.{Ending}
 use Rattle.coati_word.specs.declared.ending.Ending.TheVariants.{Next, Halt}
-use Rattle.task_syntax.specs.Course.{Access, after, readings}
+use Rattle.task_syntax.specs.Course.{Course, Access, accesses, after, answer, readings}
 use Rattle.task_syntax.specs.Units.{Reached, halt}
 use Rattle.serial_run.specs.declared.outcome.Outcome.{Outcome}
 use Rattle.serial_run.specs.declared.outcome.TxRun.{TxRun}
@@ -14,6 +14,11 @@ pub record Tells (before : List ℕ) (done : List Access) (ending : Ending) (sto
   pub words : length store ≡ length before
   pub readings_told : outcome.readings ≡ readings done
   pub ending_told : outcome.ending ≡ ending
+
+-- a course is told that has run from these words
+abbrev pub TellsCourse : List ℕ → Course Ending → List ℕ → Outcome → Type 0
+TellsCourse before course store outcome =
+    Tells before (accesses course (slice_index before)) (answer course (slice_index before)) store outcome
 
 -- how a unit ends that leads to a place
 abbrev pub ending_at : ℕ → Ending

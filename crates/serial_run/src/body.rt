@@ -1,13 +1,10 @@
-ghost use Rattle.std.specs.Prelude.{◌≡◌, IfOk, IsTrue, OnOk, slice_get};
-ghost use Rattle.task_syntax.specs.Expressions.{no_locals};
-ghost use Rattle.task_syntax.specs.Names.{tasks};
+ghost use Rattle.std.specs.Prelude.{◌≡◌, IfOk, IsTrue, OnOk};
 ghost use Rattle.task_syntax.specs.Statements.{body};
-ghost use Rattle.task_syntax.specs.Units.{statements_of, task_course};
+ghost use Rattle.task_syntax.specs.Units.{task_course};
 ghost use Rattle.task_check.specs.Messages.{statements_give};
 ghost use Rattle.serial_run.specs.Locals.{locals_of};
 ghost use Rattle.serial_run.specs.Moments.{behind, end_of};
 ghost use Rattle.serial_run.specs.Runs.{IsRunOf, moment_of};
-ghost use Rattle.serial_run.specs.Sound.{IsSound};
 
 use crate::locals::Locals;
 use crate::run::Run;
@@ -24,12 +21,13 @@ pub(crate) fn run_body<'p>(
     run: &mut Run,
     block: &'p [Stmt],
 ) -> Result<Ending, OutOfMemory>
-    requires sound { IsSound checked.now }
     requires run { IsRunOf checked.now run.old }
     requires gives { IsTrue (statements_give block.now) }
-    ensures ending { IfOk result (λ ending. ending ≡ end_of (body checked.now block.now (locals_of locals.old)) (moment_of run.old)) }
+    ensures ending { IfOk result (λ ending. ending
+        ≡ end_of (body checked.now block.now (locals_of locals.old)) (moment_of run.old)) }
     ensures still { OnOk result (IsRunOf checked.now run.new) }
-    ensures moment { OnOk result (moment_of run.new ≡ behind (body checked.now block.now (locals_of locals.old)) (moment_of run.old)) }
+    ensures moment { OnOk result (moment_of run.new
+        ≡ behind (body checked.now block.now (locals_of locals.old)) (moment_of run.old)) }
 {
     let ending = statements(checked, locals, run, block)?;
     Ok(ending.unwrap_or(Ending::Done))
@@ -42,23 +40,13 @@ pub(crate) fn run_task(
     run: &mut Run,
     task: u16,
 ) -> Result<Ending, OutOfMemory>
-    requires sound { IsSound checked.now }
     requires run { IsRunOf checked.now run.old }
-    ensures ending { IfOk result (λ ending. ending ≡ end_of (task_course checked.now task) (moment_of run.old)) }
+    ensures ending { IfOk result (λ ending. ending
+        ≡ end_of (task_course checked.now task) (moment_of run.old)) }
     ensures still { OnOk result (IsRunOf checked.now run.new) }
-    ensures moment { OnOk result (moment_of run.new ≡ behind (task_course checked.now task) (moment_of run.old)) }
+    ensures moment { OnOk result (moment_of run.new
+        ≡ behind (task_course checked.now task) (moment_of run.old)) }
 {
     let mut locals = Locals::new(alloc);
-    run_body(checked, &mut locals, run, task_body(checked, task))
-}
-
-/// The statements of a task. A task that isn't there has none.
-fn task_body(checked: &Checked, task: u16) -> &[Stmt]
-    ensures { result.now ≡ statements_of (slice_get (tasks checked.now) task) }
-{
-    if task < checked.tasks() {
-        checked.task(task).body.as_slice()
-    } else {
-        &[]
-    }
+    run_body(checked, &mut locals, run, checked.task_body(task))
 }

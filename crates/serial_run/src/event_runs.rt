@@ -1,45 +1,17 @@
-ghost use Rattle.std.specs.Prelude.{◌≡◌, ◌≤◌, ◌<◌, IfOk, IsTrue, OnOk, Some, length, slice_get, slice_index};
-ghost use Rattle.task_syntax.specs.Course.{accesses, answer};
-ghost use Rattle.task_syntax.specs.Events.{bottom_course, event_course, message, message_of, with_words};
-ghost use Rattle.task_syntax.specs.Names.{word_count};
+ghost use Rattle.std.specs.Prelude.{◌≡◌, ◌<◌, IfOk, IsTrue, OnOk, length};
+ghost use Rattle.task_syntax.specs.Events.{event_course, message, message_of, with_words};
 ghost use Rattle.task_check.specs.Messages.{statements_give};
 ghost use Rattle.serial_run.specs.Locals.{locals_of};
 ghost use Rattle.serial_run.specs.Moments.{behind, end_of};
 ghost use Rattle.serial_run.specs.Runs.{IsRunOf, moment_of};
-ghost use Rattle.serial_run.specs.Sound.{IsSound};
 
 use crate::body::run_body;
 use crate::locals::Locals;
 use crate::run::Run;
-use crate::sound::sound;
-use crate::task_runs::told;
-use crate::{Outcome, SerialStore};
 use coati_word::{Ending, Message, OutOfMemory};
 use std::alloc::Global;
 use task_check::Checked;
 use task_syntax::{Event, Name};
-
-impl SerialStore {
-    ghost use Rattle.serial_run.specs.Outcomes.{Tells};
-
-    /// Runs an event on an argument: its top half, which sees no variable, and its bottom half on what the top half gave.
-    pub fn run_event(
-        self,
-        checked: &Checked,
-        event: u16,
-        argument: u16,
-    ) -> Result<(SerialStore, Outcome), OutOfMemory>
-        requires words { length self ≡ word_count checked.now.vars }
-        requires event { event < length checked.now.events }
-        ensures { IfOk result (λ ran. Tells self (accesses (event_course checked.now event argument) (slice_index self)) (answer (event_course checked.now event argument) (slice_index self)) ran.0 ran.1) }
-    {
-        sound(checked);
-        let SerialStore { alloc, words } = self;
-        let mut run = Run::reading(alloc, words);
-        let ending = run_halves(alloc, checked, &mut run, event, argument)?;
-        Ok(told(alloc, run, ending))
-    }
-}
 
 /// Runs the two halves of an event.
 pub(crate) fn run_halves(
@@ -49,12 +21,13 @@ pub(crate) fn run_halves(
     event: u16,
     argument: u16,
 ) -> Result<Ending, OutOfMemory>
-    requires sound { IsSound checked.now }
     requires run { IsRunOf checked.now run.old }
     requires event { event < length checked.now.events }
-    ensures ending { IfOk result (λ ending. ending ≡ end_of (event_course checked.now event argument) (moment_of run.old)) }
+    ensures ending { IfOk result (λ ending. ending
+        ≡ end_of (event_course checked.now event argument) (moment_of run.old)) }
     ensures still { OnOk result (IsRunOf checked.now run.new) }
-    ensures moment { OnOk result (moment_of run.new ≡ behind (event_course checked.now event argument) (moment_of run.old)) }
+    ensures moment { OnOk result (moment_of run.new
+        ≡ behind (event_course checked.now event argument) (moment_of run.old)) }
 {
     let declared = &checked.program().events.as_slice()[event as usize];
     let message = message(alloc, checked, declared, argument)?;
@@ -70,12 +43,11 @@ fn message(
     event: &Event,
     argument: u16,
 ) -> Result<Message, OutOfMemory>
-    requires sound { IsSound checked.now }
     requires gives { IsTrue (statements_give event.now.top) }
     ensures { IfOk result (λ words. words ≡ message checked.now event.now argument) }
 {
     let words = usize::from(checked.words());
-    let blank = Vec::from_elem(alloc, 0, words).map_err(|_| OutOfMemory)?;
+    let blank = Vec::from_elem(alloc, 0, words)?;
     let mut run = Run::reading(alloc, blank);
     let mut locals = Locals::new(alloc);
     locals.set(&event.argument.text, argument)?;
@@ -95,7 +67,8 @@ fn message_of(ending: Ending) -> Message
 
 /// Lets names stand for words, each for one.
 fn set_all<'p>(locals: &mut Locals<'p>, names: &'p [Name], words: &[u16]) -> Result<(), OutOfMemory>
-    ensures { OnOk result (locals_of locals.new ≡ with_words names.now words.now (locals_of locals.old)) }
+    ensures { OnOk result (locals_of locals.new
+        ≡ with_words names.now words.now (locals_of locals.old)) }
 {
     for at in 0..names.len().min(words.len()) {
         locals.set(&names[at].text, words[at])?;

@@ -5,7 +5,6 @@ ghost use Rattle.serial_run.specs.Aims.{IsAimWithin, aim_of};
 ghost use Rattle.serial_run.specs.Locals.{locals_of};
 ghost use Rattle.serial_run.specs.Moments.{behind, end_of};
 ghost use Rattle.serial_run.specs.Runs.{IsRunOf, moment_of};
-ghost use Rattle.serial_run.specs.Sound.{IsSound};
 
 use crate::locals::Locals;
 use crate::run::Run;
@@ -23,11 +22,12 @@ pub(crate) fn evaluate(
     run: &mut Run,
     source: &Expr,
 ) -> Result<u16, OutOfMemory>
-    requires sound { IsSound checked.now }
     requires run { IsRunOf checked.now run.old }
-    ensures value { IfOk result (λ value. value ≡ end_of (expression checked.now source.now (locals_of locals.now)) (moment_of run.old)) }
+    ensures value { IfOk result (λ value. value
+        ≡ end_of (expression checked.now source.now (locals_of locals.now)) (moment_of run.old)) }
     ensures still { OnOk result (IsRunOf checked.now run.new) }
-    ensures moment { OnOk result (moment_of run.new ≡ behind (expression checked.now source.now (locals_of locals.now)) (moment_of run.old)) }
+    ensures moment { OnOk result (moment_of run.new
+        ≡ behind (expression checked.now source.now (locals_of locals.now)) (moment_of run.old)) }
 {
     match source {
         Expr::Num(number) => Ok(*number),
@@ -56,12 +56,13 @@ pub(crate) fn aim<'p>(
     run: &mut Run,
     place: &'p Place,
 ) -> Result<Target<'p>, OutOfMemory>
-    requires sound { IsSound checked.now }
     requires run { IsRunOf checked.now run.old }
-    ensures aim { IfOk result (λ target. aim_of target ≡ end_of (aim checked.now place.now (locals_of locals.now)) (moment_of run.old)) }
+    ensures aim { IfOk result (λ target. aim_of target
+        ≡ end_of (aim checked.now place.now (locals_of locals.now)) (moment_of run.old)) }
     ensures within { IfOk result (λ target. IsAimWithin checked.now (aim_of target)) }
     ensures still { OnOk result (IsRunOf checked.now run.new) }
-    ensures moment { OnOk result (moment_of run.new ≡ behind (aim checked.now place.now (locals_of locals.now)) (moment_of run.old)) }
+    ensures moment { OnOk result (moment_of run.new
+        ≡ behind (aim checked.now place.now (locals_of locals.now)) (moment_of run.old)) }
 {
     match place {
         Place::Plain(name) => Ok(plain(checked, &name.text)),
@@ -74,7 +75,6 @@ pub(crate) fn aim<'p>(
 
 /// Where a name without an index is.
 fn plain<'p>(checked: &Checked, name: &'p NameText) -> Target<'p>
-    requires { IsSound checked.now }
     ensures aim { aim_of result ≡ plain_aim name.now (words_of checked.now name.now) }
     ensures within { IsAimWithin checked.now (aim_of result) }
 {
@@ -86,7 +86,6 @@ fn plain<'p>(checked: &Checked, name: &'p NameText) -> Target<'p>
 
 /// Where an item is. An index goes round modulo the array's length.
 fn item<'p>(checked: &Checked, name: &'p NameText, index: u16) -> Target<'p>
-    requires { IsSound checked.now }
     ensures aim { aim_of result ≡ item_aim name.now index (words_of checked.now name.now) }
     ensures within { IsAimWithin checked.now (aim_of result) }
 {
@@ -106,9 +105,11 @@ fn read(
 ) -> Result<u16, OutOfMemory>
     requires run { IsRunOf checked.now run.old }
     requires within { IsAimWithin checked.now (aim_of target) }
-    ensures value { IfOk result (λ value. value ≡ end_of (value_at (locals_of locals.now) (aim_of target.entry)) (moment_of run.old)) }
+    ensures value { IfOk result (λ value. value
+        ≡ end_of (value_at (locals_of locals.now) (aim_of target.entry)) (moment_of run.old)) }
     ensures still { OnOk result (IsRunOf checked.now run.new) }
-    ensures moment { OnOk result (moment_of run.new ≡ behind (value_at (locals_of locals.now) (aim_of target.entry)) (moment_of run.old)) }
+    ensures moment { OnOk result (moment_of run.new
+        ≡ behind (value_at (locals_of locals.now) (aim_of target.entry)) (moment_of run.old)) }
 {
     match target {
         Target::Local(name) => Ok(locals.get(name)),

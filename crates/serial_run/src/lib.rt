@@ -1,4 +1,5 @@
-//! The plain evaluator: what tasks, transactions and events do, one after another and each whole, with no cut of power.
+//! The plain evaluator: what tasks, transactions and events do, one after another and each whole,
+//! with no cut of power.
 #![tactic(auto)]
 
 mod body;
@@ -9,12 +10,9 @@ mod locals;
 mod outcome;
 mod readings;
 mod run;
-mod sound;
 mod statement;
 mod store;
 mod target;
-mod task_runs;
-mod touches;
 mod unit;
 mod words;
 

@@ -43,7 +43,8 @@ impl<'a> Locals<'a> {
 
     /// Lets a name stand for a value.
     pub(crate) fn set(&mut self, name: &'a NameText, value: u16) -> Result<(), OutOfMemory>
-        ensures { OnOk result (locals_of self.new ≡ with_local name.now value (locals_of self.old)) }
+        ensures { OnOk result (locals_of self.new
+            ≡ with_local name.now value (locals_of self.old)) }
     {
         match place_of(self.named.as_slice(), name) {
             Some(at) => {
@@ -57,7 +58,7 @@ impl<'a> Locals<'a> {
     fn push(&mut self, local: Local<'a>) -> Result<(), OutOfMemory>
         ensures { OnOk result (self.new.named.items ≡ self.old.named.items ++ local.entry ∷ []) }
     {
-        self.named.push(local).map_err(|_| OutOfMemory)
+        Ok(self.named.push(local)?)
     }
 }
 

@@ -7,7 +7,6 @@ ghost use Rattle.serial_run.specs.Aims.{IsAimWithin, aim_of};
 ghost use Rattle.serial_run.specs.Locals.{locals_of};
 ghost use Rattle.serial_run.specs.Moments.{behind, end_of};
 ghost use Rattle.serial_run.specs.Runs.{IsRunOf, moment_of};
-ghost use Rattle.serial_run.specs.Sound.{IsSound};
 ghost use Rattle.serial_run.specs.Ways.{way_of};
 
 use crate::expression::{aim, evaluate};
@@ -26,12 +25,13 @@ pub(crate) fn statement<'p>(
     run: &mut Run,
     source: &'p Stmt,
 ) -> Result<Option<Ending>, OutOfMemory>
-    requires sound { IsSound checked.now }
     requires run { IsRunOf checked.now run.old }
     requires gives { IsTrue (statement_gives source.now) }
-    ensures way { IfOk result (λ ending. way_of ending (locals_of locals.new) ≡ end_of (statement checked.now source.now (locals_of locals.old)) (moment_of run.old)) }
+    ensures way { IfOk result (λ ending. way_of ending (locals_of locals.new)
+        ≡ end_of (statement checked.now source.now (locals_of locals.old)) (moment_of run.old)) }
     ensures still { OnOk result (IsRunOf checked.now run.new) }
-    ensures moment { OnOk result (moment_of run.new ≡ behind (statement checked.now source.now (locals_of locals.old)) (moment_of run.old)) }
+    ensures moment { OnOk result (moment_of run.new
+        ≡ behind (statement checked.now source.now (locals_of locals.old)) (moment_of run.old)) }
 {
     match source {
         Stmt::Let(name, value) => {
@@ -75,12 +75,13 @@ pub(crate) fn statements<'p>(
     run: &mut Run,
     block: &'p [Stmt],
 ) -> Result<Option<Ending>, OutOfMemory>
-    requires sound { IsSound checked.now }
     requires run { IsRunOf checked.now run.old }
     requires gives { IsTrue (statements_give block.now) }
-    ensures way { IfOk result (λ ending. way_of ending (locals_of locals.new) ≡ end_of (statements checked.now block.now (locals_of locals.old)) (moment_of run.old)) }
+    ensures way { IfOk result (λ ending. way_of ending (locals_of locals.new)
+        ≡ end_of (statements checked.now block.now (locals_of locals.old)) (moment_of run.old)) }
     ensures still { OnOk result (IsRunOf checked.now run.new) }
-    ensures moment { OnOk result (moment_of run.new ≡ behind (statements checked.now block.now (locals_of locals.old)) (moment_of run.old)) }
+    ensures moment { OnOk result (moment_of run.new
+        ≡ behind (statements checked.now block.now (locals_of locals.old)) (moment_of run.old)) }
 {
     for source in block {
         if let Some(ending) = statement(checked, locals, run, source)? {
@@ -100,12 +101,15 @@ fn repeat<'p>(
     count: u16,
     block: &'p [Stmt],
 ) -> Result<Option<Ending>, OutOfMemory>
-    requires sound { IsSound checked.now }
     requires run { IsRunOf checked.now run.old }
     requires gives { IsTrue (statements_give block.now) }
-    ensures way { IfOk result (λ ending. way_of ending (locals_of locals.new) ≡ end_of (turns count 0 name.now.text (statements checked.now block.now) (locals_of locals.old)) (moment_of run.old)) }
+    ensures way { IfOk result (λ ending. way_of ending (locals_of locals.new) ≡ end_of
+        (turns count 0 name.now.text (statements checked.now block.now) (locals_of locals.old))
+        (moment_of run.old)) }
     ensures still { OnOk result (IsRunOf checked.now run.new) }
-    ensures moment { OnOk result (moment_of run.new ≡ behind (turns count 0 name.now.text (statements checked.now block.now) (locals_of locals.old)) (moment_of run.old)) }
+    ensures moment { OnOk result (moment_of run.new ≡ behind
+        (turns count 0 name.now.text (statements checked.now block.now) (locals_of locals.old))
+        (moment_of run.old)) }
 {
     for turn in 0..count {
         locals.set(&name.text, turn)?;
@@ -127,9 +131,11 @@ fn assign<'p>(
 ) -> Result<(), OutOfMemory>
     requires run { IsRunOf checked.now run.old }
     requires within { IsAimWithin checked.now (aim_of target) }
-    ensures way { OnOk result (way_of None (locals_of locals.new) ≡ end_of (assigned (locals_of locals.old) (aim_of target.entry) value) (moment_of run.old)) }
+    ensures way { OnOk result (way_of None (locals_of locals.new) ≡ end_of
+        (assigned (locals_of locals.old) (aim_of target.entry) value) (moment_of run.old)) }
     ensures still { OnOk result (IsRunOf checked.now run.new) }
-    ensures moment { OnOk result (moment_of run.new ≡ behind (assigned (locals_of locals.old) (aim_of target.entry) value) (moment_of run.old)) }
+    ensures moment { OnOk result (moment_of run.new ≡ behind
+        (assigned (locals_of locals.old) (aim_of target.entry) value) (moment_of run.old)) }
 {
     match target {
         Target::Local(name) => locals.set(name, value),
@@ -157,12 +163,13 @@ fn give(
     run: &mut Run,
     values: &[Expr],
 ) -> Result<Message, OutOfMemory>
-    requires sound { IsSound checked.now }
     requires run { IsRunOf checked.now run.old }
     requires few { length values.now ≤ 4 }
-    ensures words { IfOk result (λ message. message ≡ end_of (expressions checked.now values.now (locals_of locals.now)) (moment_of run.old)) }
+    ensures words { IfOk result (λ message. message
+        ≡ end_of (expressions checked.now values.now (locals_of locals.now)) (moment_of run.old)) }
     ensures still { OnOk result (IsRunOf checked.now run.new) }
-    ensures moment { OnOk result (moment_of run.new ≡ behind (expressions checked.now values.now (locals_of locals.now)) (moment_of run.old)) }
+    ensures moment { OnOk result (moment_of run.new
+        ≡ behind (expressions checked.now values.now (locals_of locals.now)) (moment_of run.old)) }
 {
     let mut words = [0u16; 4];
     for (at, value) in values.iter().enumerate() {

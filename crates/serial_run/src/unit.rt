@@ -1,7 +1,7 @@
 ghost use Rattle.std.specs.Prelude.{◌≡◌, ◌∷◌, IfOk, OnOk};
 ghost use Rattle.task_syntax.specs.Units.{is_inside, place_after};
+ghost use Rattle.serial_run.specs.Outcomes.{ending_at};
 ghost use Rattle.serial_run.specs.Runs.{IsRunOf, moment_of};
-ghost use Rattle.serial_run.specs.Sound.{IsSound};
 ghost use Rattle.serial_run.specs.Units.{Finds};
 
 use crate::body::run_task;
@@ -11,8 +11,8 @@ use coati_word::{Ending, OutOfMemory};
 use std::alloc::Global;
 use task_check::Checked;
 
-/// Runs so many tasks of a unit, the first being `task`, each on what those before it left. The answer is where the last
-/// of them leads, or none where the unit ends before.
+/// Runs so many tasks of a unit, the first being `task`, each on what those before it left. The
+/// answer is where the last of them leads, or none where the unit ends before.
 pub(crate) fn run_tasks(
     alloc: Global,
     checked: &Checked,
@@ -20,9 +20,9 @@ pub(crate) fn run_tasks(
     task: u16,
     count: u32,
 ) -> Result<Option<u16>, OutOfMemory>
-    requires sound { IsSound checked.now }
     requires run { IsRunOf checked.now run.old }
-    ensures found { IfOk result (λ place. Finds checked.now task (moment_of run.old) count (moment_of run.new) place) }
+    ensures found { IfOk result (λ place.
+        Finds checked.now task (moment_of run.old) count (moment_of run.new) place) }
     ensures still { OnOk result (IsRunOf checked.now run.new) }
 {
     if count == 0 {
@@ -55,5 +55,16 @@ pub(crate) fn is_inside(checked: &Checked, task: u16, place: u16) -> bool
     match checked.tx_of_task(task) {
         None => false,
         Some(tx) => checked.tx_of_task(place) == Some(tx),
+    }
+}
+
+/// How a unit ends that leads to a place.
+pub(crate) fn ending_at(place: u16) -> Ending
+    ensures { result ≡ ending_at place }
+{
+    if place == HALT {
+        Ending::Halt
+    } else {
+        Ending::Next(place)
     }
 }

@@ -1,6 +1,6 @@
 use Rattle.std.proofs.Common.{◌≡◌, get_or}
 use Rattle.std.specs.Prelude.{Some, slice_get}
-use Rattle.serial_run.proofs.Tasks.{get-is}
+use Rattle.serial_run.proofs.Elements.{get-is}
 use Rattle.serial_run.proofs.event_runs.run_halves.Goals as goal
 
 pub returns-clause-ending : goal.returns-clause-ending

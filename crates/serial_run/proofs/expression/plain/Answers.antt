@@ -1,8 +1,5 @@
-use Rattle.std.proofs.Common.{sym, ◌∙◌, arith}
-use Rattle.serial_run.proofs.Aiming.{found-fits}
+use Rattle.std.proofs.Common.{arith}
 use Rattle.serial_run.proofs.expression.plain.Goals as goal
 
 pub returns-in-Some-clause-within : goal.returns-in-Some-clause-within
-returns-in-Some-clause-within c =
-    let stands = found-fits c.args.checked.now c.args.name.now c.in-Some.first c.in-Some.field-0-1 c.requires.arrays (sym c.word_of.ensures.words ∙ c.in-Some.is) in
-    omega (arith, stands.some, stands.within)
+returns-in-Some-clause-within c = omega (arith, c.in-Some.ensures.some, c.in-Some.ensures.within)

@@ -4,15 +4,8 @@ use Rattle.task_syntax.specs.Course.{accesses, answer}
 use Rattle.task_syntax.specs.Events.{event_course}
 use Rattle.serial_run.specs.Moments.{reading_from}
 use Rattle.serial_run.specs.Runs.{moment_of}
-use Rattle.serial_run.proofs.Telling.{keeps-readings, tells, ran-from, ended-from}
+use Rattle.serial_run.proofs.Telling.{tells, ran-from, ended-from}
 use Rattle.serial_run.proofs.store.SerialStore.run_event.Goals as goal
-
-pub told-requires : goal.told-requires
-told-requires c =
-    let course = event_course c.args.checked.now c.args.event c.args.argument in
-    let begun : moment_of c.reading-run.result ≡ reading_from c.args.self = rw c.self.view_is at c.reading-run.ensures in
-    let came = ran-from course c.args.self (moment_of c.reading-run.result) (moment_of c.run_halves.new.run) begun c.in_ok-ending.ensures.moment in
-    keeps-readings c.args.self (accesses course (slice_index c.args.self)) (moment_of c.run_halves.new.run) came
 
 pub returns : goal.returns
 returns c =
@@ -21,4 +14,4 @@ returns c =
     let came = ran-from course c.args.self (moment_of c.reading-run.result) (moment_of c.run_halves.new.run) begun c.in_ok-ending.ensures.moment in
     let ends = ended-from course c.args.self (moment_of c.reading-run.result) c.in_ok-ending.ending begun c.in_ok-ending.ensures.ending in
     tells c.args.self c.told.result.0 (accesses course (slice_index c.args.self)) (answer course (slice_index c.args.self)) c.told.result.1 (moment_of c.run_halves.new.run) came
-    c.told.ensures.moment (c.told.ensures.ending ∙ ends)
+    c.told.ensures.left (c.told.ensures.ending ∙ ends)

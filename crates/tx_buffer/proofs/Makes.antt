@@ -3,7 +3,8 @@ use Rattle.std.proofs.Common.{◌≡◌, ◌≢◌, ◌↔◌, ℕ, refl, ap, �
 use Rattle.nv_memory.specs.declared.write.Write.{Write}
 use Rattle.nv_memory.specs.declared.layout.Layout.{Layout}
 use Rattle.nv_memory.specs.Seats.{Memory, Seat, address, is_seat}
-use Rattle.nv_memory.specs.State.{Change, Writes, first_undone, set_to, state}
+use Rattle.nv_memory.specs.State.{Change, first_undone, set_to, state}
+use Rattle.nv_memory.proofs.Puts.{writes_at}
 use Rattle.tx_buffer.specs.Next.{IsNext, MakesNext}
 use Rattle.tx_buffer.proofs.Undone.{undone_head}
 
@@ -11,17 +12,13 @@ use Rattle.tx_buffer.proofs.Undone.{undone_head}
 pub at_seat : (m : Memory) (layout : Layout) (at : ℕ) (seat : Seat) → layout ≡ record { n = m.n; k = m.k } → at ≡ address layout.n seat → at ≡ address m.n seat
 at_seat m layout at seat l e = e ∙ ap (λ (l : Layout). address l.n seat) l
 
-pub writes_at : (m : Memory) (seat : Seat) (at word : ℕ) → is_seat m.n m.k seat ≡ true → at ≡ address m.n seat
-    → Writes m (set_to seat word) (record { at = at; word = word })
-writes_at m seat at word is e = record { seat = is; is = ap (λ (a : ℕ). let write : Write = record { at = a; word = word } in write) e }
-
 -- the first change of a list is made
 pub makes_head : (m : Memory) (seat : Seat) (at word : ℕ) (rest : List Change) → is_seat m.n m.k seat ≡ true → at ≡ address m.n seat
     → (state m).at seat ≢ word → MakesNext m (set_to seat word ∷ rest) (record { at = at; word = word })
 makes_head m seat at word rest is e n = record {
   change = set_to seat word;
   next = undone_head (state m) (set_to seat word) rest n;
-  writes = writes_at m seat at word is e;
+  writes = writes_at m seat word at word is e refl;
 }
 
 -- none is answered exactly where a fact holds that says that all stand

@@ -1,16 +1,15 @@
 -- A write of a merge leaves the unit's values and flags, and keeps the ranges.
 use Rattle.std.proofs.Common.{◌≡◌, ◌≢◌, ℕ, ◌+◌, ◌<◌, ◌==◌, ◌||◌, refl, sym, ◌∙◌, subst, arith, inl, inr, Some, None, Option, Bool, true, false, if◌then◌else◌}
 use Rattle.std.proofs.lemmas.Bool.{cases_eq}
-use Rattle.nv_memory.specs.declared.log.Log.{Log}
 use Rattle.nv_memory.specs.declared.log.Log.TheVariants as log
 use Rattle.nv_memory.specs.Frames.{KeepsBeside}
 use Rattle.nv_memory.specs.InRange.{InRange}
 use Rattle.nv_memory.specs.State.{Change, State, first_undone, put, set_to}
 use Rattle.nv_memory.specs.StandsFor.{first_value}
 use Rattle.nv_memory.specs.Words.{attempt_flag, tx_flag, tx_flag_seat}
-use Rattle.nv_memory.specs.Logs.{IsLog, length_in, number_in, pair_value_in, seats_of, task_log, tx_log, value_in}
-use Rattle.nv_memory.proofs.Frames.{beside_ranges, length_keeps_beside, number_keeps_beside, range_after_tx_flag, range_kept, ranges_after, value_keeps_beside}
-use Rattle.nv_memory.proofs.LogWrites.{LiesApart, apart_of, log_after_value, log_behind_number, log_longer, logs_apart, value_behind_number, value_behind_value, value_longer, value_replaced}
+use Rattle.nv_memory.specs.Logs.{length_in, number_in, pair_value_in, task_log, tx_log, value_in}
+use Rattle.nv_memory.proofs.Frames.{length_keeps_beside, number_keeps_beside, range_after_tx_flag, range_after_value, range_behind_number, range_longer, value_keeps_beside}
+use Rattle.nv_memory.proofs.LogWrites.{apart_of, value_behind_number, value_behind_value, value_longer, value_replaced}
 use Rattle.nv_memory.proofs.Looks.{look_none, none_at, test_other, test_same}
 use Rattle.tx_buffer.specs.Merge.{merge_changes}
 use Rattle.tx_buffer.specs.Keeps.{KeepsMerged, joined_flag}
@@ -51,58 +50,37 @@ flag_joins s word other set = elim (cases_eq other word) [
   | inr n ↦ rw (test_other other word n) refl
 ]
 
--- the ranges of logs after a write into the transaction log
 module _ (s : State) (r : InRange s) where
-  room_for : (c : Change) → KeepsBeside log.Tx s (put s c) → IsLog (put s c) tx_log
-      → ((other : Log) → other ≢ log.Tx → LiesApart (seats_of other) c.seat) → InRange (put s c)
-  room_for c beside own apart =
-      range_kept s (put s c) (beside_ranges s (put s c) log.Tx beside r) (ranges_after s log.Tx c.seat c.value apart (λ has. own) r) r
-
-  length_lies : (other : Log) → other ≢ log.Tx → LiesApart (seats_of other) tx_log.length
-  length_lies other ne = elim (logs_apart other log.Tx) [ inl same ↦ absurd (ne same) | inr apart ↦ apart.length ]
-
-  number_lies : (i : ℕ) (other : Log) → other ≢ log.Tx → LiesApart (seats_of other) (tx_log.number i)
-  number_lies i other ne = elim (logs_apart other log.Tx) [ inl same ↦ absurd (ne same) | inr apart ↦ apart.number i ]
-
-  value_lies : (i : ℕ) (other : Log) → other ≢ log.Tx → LiesApart (seats_of other) (tx_log.value i)
-  value_lies i other ne = elim (logs_apart other log.Tx) [ inl same ↦ absurd (ne same) | inr apart ↦ apart.value i ]
-
   pub write_keeps : (c : Change) → IsMergeWrite s c → KeepsMerged s (put s c)
   write_keeps c (renews i at first is n e) =
       let value = pair_value_in s task_log i in
-      let d = set_to (tx_log.value at) value in
-      let beside = value_keeps_beside s log.Tx at value in
       subst (λ (x : Change). KeepsMerged s (put s x)) (sym e)
-      (log_write s d beside
+      (log_write s (set_to (tx_log.value at) value) (value_keeps_beside s log.Tx at value)
       (λ other none. value_replaced s tx_log (apart_of log.Tx) at (number_in s task_log i) value other is ∙ not_the_word s i other _ _ first.low none)
-      (room_for d beside (log_after_value s tx_log (apart_of log.Tx) at value (r.logs log.Tx tt)) (value_lies at)))
+      (range_after_value s log.Tx at value r))
   write_keeps c (numbers i first absent n e) =
       let word = number_in s task_log i in
       let end = length_in s tx_log in
-      let d = set_to (tx_log.number end) word in
-      let beside = number_keeps_beside s log.Tx end word in
       subst (λ (x : Change). KeepsMerged s (put s x)) (sym e)
-      (log_write s d beside (λ other none. value_behind_number s tx_log (apart_of log.Tx) end word other (omega arith))
-      (room_for d beside (log_behind_number s tx_log (apart_of log.Tx) end word (omega arith) (r.logs log.Tx tt)) (number_lies end)))
+      (log_write s (set_to (tx_log.number end) word) (number_keeps_beside s log.Tx end word)
+      (λ other none. value_behind_number s tx_log (apart_of log.Tx) end word other (omega arith))
+      (range_behind_number s log.Tx end word (omega arith) r))
   write_keeps c (values i first absent named n e) =
       let value = pair_value_in s task_log i in
       let end = length_in s tx_log in
-      let d = set_to (tx_log.value end) value in
-      let beside = value_keeps_beside s log.Tx end value in
       subst (λ (x : Change). KeepsMerged s (put s x)) (sym e)
-      (log_write s d beside (λ other none. value_behind_value s tx_log (apart_of log.Tx) end value other (omega arith))
-      (room_for d beside (log_after_value s tx_log (apart_of log.Tx) end value (r.logs log.Tx tt)) (value_lies end)))
+      (log_write s (set_to (tx_log.value end) value) (value_keeps_beside s log.Tx end value)
+      (λ other none. value_behind_value s tx_log (apart_of log.Tx) end value other (omega arith))
+      (range_after_value s log.Tx end value r))
   write_keeps c (lengths i first absent named valued e) =
       let word = number_in s task_log i in
       let end = length_in s tx_log in
-      let d = set_to tx_log.length (end + 1) in
-      let beside = length_keeps_beside s log.Tx (end + 1) in
       let none = look_none (number_in s tx_log) (pair_value_in s tx_log) end word absent in
       let low = (r.logs log.Task tt).below i first.low in
       subst (λ (x : Change). KeepsMerged s (put s x)) (sym e)
-      (log_write s d beside
+      (log_write s (set_to tx_log.length (end + 1)) (length_keeps_beside s log.Tx (end + 1))
       (λ other lacks. value_longer s tx_log (apart_of log.Tx) word (pair_value_in s task_log i) other named valued ∙ not_the_word s i other _ _ first.low lacks)
-      (room_for d beside (log_longer s tx_log (apart_of log.Tx) word low none named (r.logs log.Tx tt)) length_lies))
+      (range_longer s log.Tx word low none named r))
   write_keeps c (joins word before l set n e) =
       subst (λ (x : Change). KeepsMerged s (put s x)) (sym e)
       (record {

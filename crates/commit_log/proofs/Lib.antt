@@ -1,0 +1,8 @@
+pub mod Walks
+pub mod Nexts
+pub mod Ranges
+pub mod Pairs
+pub mod Merging
+pub mod Applying
+pub mod Taking
+pub mod Commits

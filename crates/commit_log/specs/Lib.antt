@@ -1,0 +1,5 @@
+pub mod Marker
+pub mod Changes
+pub mod OpenUnit
+pub mod Left
+pub mod Laws

@@ -1,0 +1,18 @@
+//! Commits write by write: each call answers the next write from the image alone, and none of them changes what it stands for.
+#![tactic(auto)]
+
+mod event;
+mod into_tx;
+pub mod laws;
+mod marker;
+mod next;
+mod prepare;
+mod stands;
+mod unit;
+mod variables;
+mod words;
+
+pub use marker::{Marker, mark_write};
+pub use next::next_write;
+pub use prepare::{prepare_event, prepare_write};
+pub use stands::{committed, place};

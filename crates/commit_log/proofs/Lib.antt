@@ -6,3 +6,8 @@ pub mod Merging
 pub mod Applying
 pub mod Taking
 pub mod Commits
+pub mod Sums
+pub mod Counts
+pub mod MergeCounts
+pub mod Ends
+mod Examples

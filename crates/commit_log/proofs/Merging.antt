@@ -30,10 +30,10 @@ pub data IsIntoTxWrite (s : State) (c : Change) : Type 0 where
   empties : opened s ≡ 1 → HasMerged s → length_in s task_log ≢ 0 → c ≡ set_to task_log.length 0 → IsIntoTxWrite s c
   clears : opened s ≡ 1 → current s ≡ next s → HasMerged s → length_in s task_log ≡ 0 → c ≡ set_to mark_seat 0 → IsIntoTxWrite s c
 
-first_open : (s : State) → opened s ≡ 1 → first_task s ≡ first s
+pub first_open : (s : State) → opened s ≡ 1 → first_task s ≡ first s
 first_open s e = rw e refl
 
-first_closed : (s : State) → opened s ≢ 1 → first_task s ≡ current s
+pub first_closed : (s : State) → opened s ≢ 1 → first_task s ≡ current s
 first_closed s n = rw (test_other (opened s) 1 n) refl
 
 first_write : (s : State) (c : Change) → first s ≢ first_task s → set_to first_seat (first_task s) ≡ c → IsIntoTxWrite s c

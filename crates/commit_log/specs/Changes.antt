@@ -1,4 +1,5 @@
--- The changes of each commit, in their order. The next write is that of the first which doesn't stand yet.
+-- The changes of each commit, in their order. The next write is that of the first one which
+-- doesn't stand yet.
 use Rattle.std.specs.Prelude.{ℕ, ◌==◌, List, [], ◌∷◌, ◌++◌, if◌then◌else◌, is_some}
 use Rattle.nv_memory.specs.State.{Change, State, set_to}
 use Rattle.nv_memory.specs.StandsFor.{head_slot}
@@ -12,7 +13,8 @@ use Rattle.tx_buffer.specs.Next.{changes_below}
 abbrev pub first_task : State → ℕ
 first_task s = if opened s == 1 then first s else current s
 
--- once the transaction has all that the task wrote and read: it is opened, the place moved, the task log emptied
+-- once the transaction has all that the task wrote and read: it is opened, the place moved, the
+-- task log emptied
 abbrev pub opening_changes : State → List Change
 opening_changes s =
     set_to first_seat (first_task s)
@@ -29,6 +31,10 @@ into_tx_changes s = merge_changes s ++ opening_changes s
 -- a pair of a log becomes its variable
 abbrev pub variable_changes : State → LogSeats → ℕ → List Change
 variable_changes s l i = set_to (variable_seat (number_in s l i)) (pair_value_in s l i) ∷ []
+
+-- all pairs of a log do
+abbrev pub log_changes : State → LogSeats → List Change
+log_changes s l = changes_below (variable_changes s l) (length_in s l)
 
 -- a pair of the transaction log does where the task log has no newer one
 abbrev pub older_changes : State → ℕ → List Change
@@ -49,7 +55,7 @@ unit_ends s = set_to tx_log.length 0 ∷ set_to task_log.length 0 ∷ unit_close
 
 -- once the older pairs stand, those of the task log are next
 abbrev pub newer_changes : State → List Change
-newer_changes s = changes_below (variable_changes s task_log) (length_in s task_log) ++ unit_ends s
+newer_changes s = log_changes s task_log ++ unit_ends s
 
 -- a unit into the variables
 abbrev pub unit_changes : State → List Change
@@ -57,9 +63,7 @@ unit_changes s = changes_below (older_changes s) (length_in s tx_log) ++ newer_c
 
 -- the pairs of the entry at the head, while it is there
 abbrev pub taken_changes : State → List Change
-taken_changes s =
-    if head s == head_next s then []
-    else changes_below (variable_changes s (entry_log (head_slot s))) (length_in s (entry_log (head_slot s)))
+taken_changes s = if head s == head_next s then [] else log_changes s (entry_log (head_slot s))
 
 -- once they stand, the entry is freed
 abbrev pub freeing_changes : State → List Change

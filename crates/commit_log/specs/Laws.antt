@@ -8,7 +8,8 @@ use Rattle.commit_log.specs.Changes.{commit_changes}
 use Rattle.commit_log.specs.Left.{writes_left}
 use Rattle.commit_log.specs.OpenUnit.{KeepsUnit}
 
--- what the image stands for stays, and so do the ranges and that a closed transaction leaves nothing behind
+-- what the image stands for stays, and so do the ranges and that a closed transaction leaves
+-- nothing behind
 pub record Keeps (old new : State) : Type 0 where
   pub meaning : StandsForTheSame old new
   pub range : InRange new
@@ -26,11 +27,14 @@ CommitsKeep = (s : State) (change : Change) → IsCommitWrite s change → Keeps
 
 -- an open unit is the same while a task goes into it, and while an event is committed under it
 abbrev pub CommitsKeepTheUnit : Type 0
-CommitsKeepTheUnit = (s : State) (change : Change) → IsCommitWrite s change → mark s ≢ 2 → KeepsUnit s (put s change)
+CommitsKeepTheUnit =
+    (s : State) (change : Change) → IsCommitWrite s change → mark s ≢ 2 → KeepsUnit s (put s change)
 
 -- each write leaves fewer
 abbrev pub CommitsGoOn : Type 0
-CommitsGoOn = (s : State) (change : Change) → IsCommitWrite s change → writes_left (put s change) < writes_left s
+CommitsGoOn =
+    (s : State) (change : Change) → IsCommitWrite s change
+    → writes_left (put s change) < writes_left s
 
 -- so many are left at most, and fewer of an event's commit
 abbrev pub FewWritesAreLeft : Type 0

@@ -27,7 +27,8 @@ flagged s word = if tx_flag s word then 1 else 0
 abbrev pub unjoined : State → ℕ → ℕ
 unjoined s word = if attempt_flag s word then (if tx_flag s word then 0 else 1) else 0
 
--- three for a pair of the task log whose word the transaction log lacks, one where it has another value
+-- three for a pair of the task log whose word the transaction log lacks, one where it has another
+-- value
 abbrev pub lacking : ℕ → Option ℕ → ℕ
 lacking value None = 3
 lacking value (Some other) = if other == value then 0 else 1
@@ -35,21 +36,24 @@ lacking value (Some other) = if other == value then 0 else 1
 abbrev pub unmerged : State → ℕ → ℕ
 unmerged s i = lacking (pair_value_in s task_log i) (value_in s tx_log (number_in s task_log i))
 
--- what stands behind the transaction log of the first pair that it lacks, the walk beginning at a pair
+-- how much of a pair stands behind the transaction log: nothing, its word, or its value too
 abbrev pub begun_pair : State → ℕ → ℕ
 begun_pair s i =
-    if number_in s tx_log (length_in s tx_log) == number_in s task_log i
-    then (if pair_value_in s tx_log (length_in s tx_log) == pair_value_in s task_log i then 2 else 1)
+    let end = length_in s tx_log in
+    if number_in s tx_log end == number_in s task_log i
+    then (if pair_value_in s tx_log end == pair_value_in s task_log i then 2 else 1)
     else 0
+
+-- of the first pair that the transaction log lacks, of so many pairs from one on
 
 abbrev pub begun_at : State → (pair rest : ℕ) → Option ℕ → ℕ
 begun_at s pair rest None = begun_pair s pair
 begun_at s pair rest (Some at) = rest
 
--- by how many pairs are left to look at, the last of them first
 abbrev pub begun_from : State → (at left : ℕ) → ℕ
 begun_from s at zero = 0
-begun_from s at (suc left) = begun_at s at (begun_from s (suc at) left) (index_in s tx_log (number_in s task_log at))
+begun_from s at (suc left) =
+    begun_at s at (begun_from s (suc at) left) (index_in s tx_log (number_in s task_log at))
 
 abbrev pub begun : State → ℕ
 begun s = begun_from s 0 (length_in s task_log)
@@ -68,7 +72,9 @@ unit_left s =
     sum_below (unapplied s) s.n
     + (undone s (set_to tx_log.length 0)
     + (undone s (set_to task_log.length 0)
-    + (sum_below (flagged s) s.n + (undone s (set_to opened_seat 0) + (undone s (set_to current_seat (next s)) + 1)))))
+    + (sum_below (flagged s) s.n
+    + (undone s (set_to opened_seat 0)
+    + (undone s (set_to current_seat (next s)) + 1)))))
 
 abbrev pub event_left : State → ℕ
 event_left s = sum_below (unapplied s) s.n + (undone s (set_to head_seat (head_next s)) + 1)

@@ -1,4 +1,5 @@
--- What an open unit amounts to, as the marker shows it: while a task goes into it, the task's part counts already.
+-- What an open unit amounts to, as the marker shows it: while a task goes into it, the task's part
+-- counts already.
 use Rattle.std.specs.Prelude.{ℕ, ◌==◌, ◌<◌, ◌≡◌, Bool, Option, if◌then◌else◌}
 use Rattle.nv_memory.specs.declared.log.Log.TheVariants as log
 use Rattle.nv_memory.specs.Logs.{log_value}

@@ -2,7 +2,8 @@
 
 ghost use Rattle.commit_log.specs.Laws.{CommitsGoOn, CommitsKeep, CommitsKeepTheUnit, EventsHaveFewWrites, FewWritesAreLeft, NoWriteIsLeft};
 
-/// Each write of a commit leaves what the image stands for, and its ranges; but for a unit's own commit, also the open unit.
+/// Each write of a commit leaves what the image stands for, and its ranges. It leaves an open unit
+/// too, but for that unit's own commit.
 pub fn commits_keep()
     ensures keep { CommitsKeep }
     ensures unit { CommitsKeepTheUnit }

@@ -2,7 +2,7 @@ ghost use Rattle.nv_memory.specs.InRange.{InRange};
 ghost use Rattle.nv_memory.specs.Logs.{HasLog, length_in, seats_of, task_log, tx_log};
 ghost use Rattle.nv_memory.specs.State.{state};
 ghost use Rattle.tx_buffer.specs.Next.{IsNext, changes_below};
-ghost use Rattle.commit_log.specs.Changes.{older_changes, variable_changes};
+ghost use Rattle.commit_log.specs.Changes.{log_changes, older_changes};
 
 use nv_memory::{Image, Log, Write};
 use tx_buffer::places;
@@ -11,8 +11,8 @@ use tx_buffer::places;
 pub fn variable_write(image: &Image, log: Log) -> Option<Write>
     requires range { InRange (state image.now) }
     requires log { HasLog image.now.k log }
-    ensures { let s = state image.now in let l = seats_of log in
-        IsNext image.now (changes_below (variable_changes s l) (length_in s l)) result }
+    ensures { let s = state image.now in
+        IsNext image.now (log_changes s (seats_of log)) result }
 {
     let layout = image.layout();
     for i in 0..image.length(log) {
@@ -27,7 +27,8 @@ pub fn variable_write(image: &Image, log: Log) -> Option<Write>
     None
 }
 
-/// The next write into the variables of the transaction log's pairs whose words aren't in the task log.
+/// The next write into the variables of the transaction log's pairs whose words aren't in the task
+/// log.
 pub fn older_write(image: &Image) -> Option<Write>
     requires { InRange (state image.now) }
     ensures { let s = state image.now in

@@ -19,7 +19,9 @@ pub record KeepsMerged (old new : State) : Type 0 where
 
 -- each write of a merge leaves them
 abbrev pub MergesKeepMerged : Type 0
-MergesKeepMerged = (s : State) (change : Change) → InRange s → first_undone s (merge_changes s) ≡ Some change → KeepsMerged s (put s change)
+MergesKeepMerged =
+    (s : State) (change : Change) → InRange s → first_undone s (merge_changes s) ≡ Some change
+    → KeepsMerged s (put s change)
 
 -- the transaction log is both logs together, and its flags are the joined ones
 pub record HasMerged (s : State) : Type 0 where

@@ -6,7 +6,8 @@ ghost use Rattle.tx_buffer.specs.Next.{IsNext};
 
 use nv_memory::{Image, Log, Write, header};
 
-/// The next write that empties the transaction's log and takes back its flags. None exactly where the length and all flags are 0.
+/// The next write that empties the transaction's log and takes back its flags. None exactly where
+/// the length and all flags are 0.
 pub fn clear_write(image: &Image) -> Option<Write>
     requires { InRange (state image.now) }
     ensures next { IsNext image.now (clear_changes (state image.now)) result }

@@ -9,7 +9,8 @@ ghost use Rattle.tx_buffer.specs.Next.{IsNext, MakesNext, changes_below};
 use crate::table::places;
 use nv_memory::{Image, Log, Write, header};
 
-/// The next write of a merge of the task's log and flags into the transaction. None exactly where the transaction has them all.
+/// The next write of a merge of the task's log and flags into the transaction. None exactly where
+/// the transaction has them all.
 pub fn merge_write(image: &Image) -> Option<Write>
     requires { InRange (state image.now) }
     ensures next { IsNext image.now (merge_changes (state image.now)) result }
@@ -78,7 +79,8 @@ fn pair_added(image: &Image, word: u16, value: u16) -> Write
 // The next write of the flags.
 fn flag_write(image: &Image) -> Option<Write>
     requires { InRange (state image.now) }
-    ensures { let s = state image.now in IsNext image.now (changes_below (flag_changes s) s.n) result }
+    ensures { let s = state image.now in
+        IsNext image.now (changes_below (flag_changes s) s.n) result }
 {
     let layout = image.layout();
     for word in 0..layout.n {

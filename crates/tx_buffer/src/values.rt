@@ -5,7 +5,8 @@ ghost use Rattle.nv_memory.specs.State.{state};
 
 use nv_memory::{Image, Log};
 
-/// The open unit's value of a word: the task log comes before the transaction log. None exactly where neither has the word.
+/// The open unit's value of a word: the task log comes before the transaction log. None exactly
+/// where neither has the word.
 pub fn look(image: &Image, word: u16) -> Option<u16>
     requires { InRange (state image.now) }
     ensures { result ≡ unit_value (state image.now) word }

@@ -1,5 +1,6 @@
 mod listings;
 mod rules;
+mod traces;
 
 use coati_io::{MemSink, MemSource};
 use coati_top::{Status, coati_still};
@@ -102,11 +103,6 @@ fn other_inputs_are_refused(rt: HostRuntime) -> Result<(), Fail> {
         (
             "nv n; nv n; task m { halt; }\n%%\nlimit 9",
             "refused rule 1 TwiceNamed at 9\n",
-        ),
-        ("nv n; task m { halt; }", "refused later\n"),
-        (
-            "nv n; task m { halt; }\n%%\nlimit 500001",
-            "refused later\n",
         ),
         (
             "nv n; task m { n = n * 2; halt; }\n%%\nlimit 9",

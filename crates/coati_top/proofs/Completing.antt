@@ -1,4 +1,5 @@
--- Why an undisturbed call on an input that is served succeeds: each other status has a cause that it rules out.
+-- Why an undisturbed call succeeds on an input that is served, and tells what is wrong with a trace: each other status
+-- has a cause that the input rules out.
 use Rattle.std.proofs.Common.{◌≡◌, ℕ, ◌+◌, ◌≤◌, List, ◌++◌, length, Some, None, refl, sym, ap, ◌∙◌, subst, inl, inr, append-nil, length-append, arith}
 use Rattle.std.specs.Prelude.{Option}
 use Rattle.task_lex.specs.Reading.{Tokens, FaultsAt}
@@ -12,6 +13,7 @@ use Rattle.task_parse.specs.Grammar.{Derives}
 use Rattle.task_parse.specs.Lexeme.{Lexeme}
 use Rattle.coati_board.specs.Board.{Whole}
 use Rattle.coati_board.specs.FirstForm.{IsFirstForm}
+use Rattle.coati_word.specs.declared.mode.Mode.{Mode}
 use Rattle.coati_top.specs.declared.command.Command.{Command}
 use Rattle.coati_top.specs.declared.command.Command.TheVariants.{Check, Dump, Run}
 use Rattle.coati_top.specs.declared.source_fault.SourceFault.{SourceFault}
@@ -23,16 +25,19 @@ use Rattle.coati_top.specs.declared.refusal.Refusal.{Refusal}
 use Rattle.coati_top.specs.declared.refusal.Refusal.TheVariants.{Source, Later}
 use Rattle.coati_top.specs.declared.status.Status.{Status}
 use Rattle.coati_top.specs.declared.status.Status.TheVariants.{Ok, Usage, ReadFault, WriteFault, TooLarge, Refused, BadTrace, Differs, OutOfMemory}
-use Rattle.coati_top.specs.Answer.{Answers, AsksForNoRun, IsRefused}
-use Rattle.coati_top.specs.Answer.Answers.{refused, measured, listed, ran}
-use Rattle.coati_top.specs.Call.{InputEdge, OutputEdge, Explains, input_limit}
-use Rattle.coati_top.specs.Complete.{IsUndisturbed, IsServed, Succeeds}
+use Rattle.coati_top.specs.Answer.{Answers, AsksFor, AsksForLater, HasFaultyTrace, IsRefused, limit_alone, other_form, more}
+use Rattle.coati_top.specs.Answer.Answers.{refused, measured, listed, untraced, ran}
+use Rattle.coati_top.specs.Call.{Answered, InputEdge, OutputEdge, Explains, input_limit}
+use Rattle.coati_top.specs.Complete.{Ends, EndsWith, IsUndisturbed, IsServed, LacksTrace}
 use Rattle.coati_top.specs.Divided.{second_part, source_part}
-use Rattle.coati_top.specs.LimitLine.{IsLimitLine}
 use Rattle.coati_top.specs.Source.{HasProgram, IsSourceFault}
+use Rattle.serial_log.specs.declared.script.Script.{Script}
+use Rattle.trace_text.specs.Trace.{FirstFault, TraceText}
+use Rattle.trace_text.specs.declared.fault.TraceFault.{TraceFault}
 use Rattle.task_syntax.specs.declared.program.Program.{Program}
 
--- what is known of a source: it has at most one list of tokens, which is at most one program, and none beside a fault
+-- what is known of a source: it has at most one list of tokens, which is at most one program, and none beside a fault;
+-- and of a trace: it is at most one script, and none beside a fault
 pub record HasOneAnswer : Type 0 where
   pub tokens : (source : List ℕ) (tokens others : List Token) → Tokens source tokens → Tokens source others → tokens ≡ others
   pub lexical : (source : List ℕ) (tokens : List Token) (fault : LexFault) → Tokens source tokens → FaultsAt source fault → ⊥
@@ -40,6 +45,10 @@ pub record HasOneAnswer : Type 0 where
   pub syntax : (list : List Lexeme) (program : Program) (token : ℕ) → Derives list program → FaultAt list token → ⊥
   pub deep : (list : List Lexeme) (token : ℕ) → AreFree start list → DeepAt list token → ⊥
   pub rule : (program : Program) (rule : Rule) (at : ℕ) → IsRefusal program (check_fault.Rule rule at) → IsAccepted program → ⊥
+  pub script : (program : Program) (text : List ℕ) (script other : Script)
+      → TraceText program text script → TraceText program text other → script ≡ other
+  pub traced : (program : Program) (text : List ℕ) (script : Script) (fault : TraceFault)
+      → TraceText program text script → FirstFault program text fault → ⊥
 
 -- an input that told of its bytes and was read to its end gave these
 whole_is_told : (old new : Option (List ℕ)) (max : ℕ) (bytes told : List ℕ) → old ≡ Some told → ReadsWhole old new max bytes → bytes ≡ told
@@ -81,8 +90,31 @@ module _ (one : HasOneAnswer) (bytes : List ℕ) (program : Program) (has : HasP
       one.rule cause.program rule at cause.refused (subst IsAccepted (same_program cause.program cause.source) accepted)
 
   -- an input that asks for a run is not put off
-  no_later : (limit : ℕ) → IsFirstForm program → IsLimitLine (second_part bytes) limit → AsksForNoRun bytes → ⊥
-  no_later limit form limited cause = cause.no_run limit (subst IsFirstForm (same_program cause.program cause.source.source) form) limited
+  no_later : (limit : ℕ) → IsFirstForm program → TraceText program (second_part bytes) (limit_alone limit) → AsksForLater bytes → ⊥
+  no_later limit form trace (other_form other source unlike) =
+      unlike (subst IsFirstForm (same_program other source.source) form)
+  no_later limit form trace (more other script source other_is second some) =
+      let here : TraceText program (second_part bytes) script =
+      subst (λ (p : Program). TraceText p (second_part bytes) script) (sym (same_program other source.source)) second in
+      let same : limit_alone limit ≡ script = one.script program (second_part bytes) (limit_alone limit) script trace here in
+      elim some [
+        | inl power ↦ power (sym (ap (λ (s : Script). s.power) same))
+        | inr postings ↦ postings (sym (ap (λ (s : Script). s.postings) same))
+      ]
+
+  -- an input without a trace is not put off either
+  no_later_untraced : (fault : TraceFault) → IsFirstForm program → FirstFault program (second_part bytes) fault → AsksForLater bytes → ⊥
+  no_later_untraced fault form first (other_form other source unlike) =
+      unlike (subst IsFirstForm (same_program other source.source) form)
+  no_later_untraced fault form first (more other script source other_is second some) =
+      one.traced program (second_part bytes) script fault
+      (subst (λ (p : Program). TraceText p (second_part bytes) script) (sym (same_program other source.source)) second) first
+
+  -- a trace has no fault
+  no_faulty : (script : Script) → TraceText program (second_part bytes) script → (fault : TraceFault) → HasFaultyTrace bytes fault → ⊥
+  no_faulty script trace fault faulty =
+      one.traced program (second_part bytes) script fault trace
+      (subst (λ (p : Program). FirstFault p (second_part bytes) fault) (sym (same_program faulty.program faulty.source.source)) faulty.first)
 
 -- what is served is not refused
 no_refusal : HasOneAnswer → (command : Command) (bytes : List ℕ) → IsServed command bytes → (refusal : Refusal) → IsRefused command bytes refusal → ⊥
@@ -93,27 +125,81 @@ no_refusal one Dump bytes served Later cause = cause
 no_refusal one (Run mode) bytes served (Source fault) cause =
     no_fault one bytes served.program served.asked.source.source served.asked.source.accepted fault cause
 no_refusal one (Run mode) bytes served Later cause =
-    no_later one bytes served.program served.asked.source.source served.limit served.asked.form served.asked.limited cause
+    no_later one bytes served.program served.asked.source.source served.limit served.asked.form served.asked.trace cause
 
-no_answer : HasOneAnswer → (command : Command) (bytes : List ℕ) → IsServed command bytes → (text : List ℕ) (board : Option Whole) → Answers command bytes Refused text board → ⊥
-no_answer one command bytes served text board (refused refusal cause is text_is none) = no_refusal one command bytes served refusal cause
-no_answer one command bytes served text board (measured program by source is text_is none) = absurd cc
-no_answer one command bytes served text board (listed program by source is text_is none) = absurd cc
-no_answer one command bytes served text board (ran mode run by made is text_is some) = absurd cc
+-- nor does its trace have a fault
+no_fault_of_trace : HasOneAnswer → (command : Command) (bytes : List ℕ) → IsServed command bytes → (mode : Mode) → command ≡ Run mode
+    → (fault : TraceFault) → HasFaultyTrace bytes fault → ⊥
+no_fault_of_trace one Check bytes served mode is fault faulty = cc
+no_fault_of_trace one Dump bytes served mode is fault faulty = cc
+no_fault_of_trace one (Run other) bytes served mode is fault faulty =
+    no_faulty one bytes served.program served.asked.source.source (limit_alone served.limit) served.asked.trace fault faulty
 
--- the status of an undisturbed call on an input that is served, by cases
-pub completes_explained : HasOneAnswer → (command : Command) (status : Status) (input : InputEdge) (output : OutputEdge) (board : Option Whole)
-    → Explains command status input output board → (bytes : List ℕ) → IsUndisturbed input output bytes → IsServed command bytes → Succeeds status
-completes_explained one command Ok input output board why bytes calm served = inl refl
-completes_explained one command Usage input output board why bytes calm served = absurd why
-completes_explained one command ReadFault input output board why bytes calm served = absurd (calm.read why.0)
-completes_explained one command WriteFault input output board why bytes calm served = absurd (calm.written why.written.failed)
-completes_explained one command TooLarge input output board why bytes calm served =
-    absurd (gives_no_more input.old input.new bytes calm.told calm.fits why.0)
-completes_explained one command Refused input output board why bytes calm served =
+-- the only status of what is served is Ok
+served_answer : HasOneAnswer → (command : Command) (bytes : List ℕ) → IsServed command bytes
+    → (status : Status) (text : List ℕ) (board : Option Whole) → Answers command bytes status text board → status ≡ Ok
+served_answer one command bytes served status text board (refused refusal cause is text_is none) = absurd (no_refusal one command bytes served refusal cause)
+served_answer one command bytes served status text board (measured program by source is text_is none) = is
+served_answer one command bytes served status text board (listed program by source is text_is none) = is
+served_answer one command bytes served status text board (untraced mode fault by faulty is text_is none) =
+    absurd (no_fault_of_trace one command bytes served mode by fault faulty)
+served_answer one command bytes served status text board (ran mode run by made is text_is some) = is
+
+-- an input without a trace is refused for no other reason, and not run
+untraced_refusal : HasOneAnswer → (command : Command) (bytes : List ℕ) → LacksTrace command bytes → (refusal : Refusal) → IsRefused command bytes refusal → ⊥
+untraced_refusal one Check bytes lacks refusal cause = lacks
+untraced_refusal one Dump bytes lacks refusal cause = lacks
+untraced_refusal one (Run mode) bytes lacks (Source fault) cause =
+    no_fault one bytes lacks.faulty.program lacks.faulty.source.source lacks.faulty.source.accepted fault cause
+untraced_refusal one (Run mode) bytes lacks Later cause =
+    no_later_untraced one bytes lacks.faulty.program lacks.faulty.source.source lacks.fault lacks.faulty.form lacks.faulty.first cause
+
+untraced_run : HasOneAnswer → (command : Command) (bytes : List ℕ) → LacksTrace command bytes → (program : Program) (limit : ℕ) → AsksFor bytes program limit → ⊥
+untraced_run one Check bytes lacks program limit asked = lacks
+untraced_run one Dump bytes lacks program limit asked = lacks
+untraced_run one (Run mode) bytes lacks program limit asked =
+    no_faulty one bytes program asked.source.source (limit_alone limit) asked.trace lacks.fault lacks.faulty
+
+-- its only status is BadTrace
+untraced_answer : HasOneAnswer → (command : Command) (bytes : List ℕ) → LacksTrace command bytes
+    → (status : Status) (text : List ℕ) (board : Option Whole) → Answers command bytes status text board → status ≡ BadTrace
+untraced_answer one command bytes lacks status text board (refused refusal cause is text_is none) = absurd (untraced_refusal one command bytes lacks refusal cause)
+untraced_answer one command bytes lacks status text board (measured program by source is text_is none) =
+    absurd (subst (λ (c : Command). LacksTrace c bytes) by lacks)
+untraced_answer one command bytes lacks status text board (listed program by source is text_is none) =
+    absurd (subst (λ (c : Command). LacksTrace c bytes) by lacks)
+untraced_answer one command bytes lacks status text board (untraced mode fault by faulty is text_is none) = is
+untraced_answer one command bytes lacks status text board (ran mode run by made is text_is some) =
+    absurd (untraced_run one command bytes lacks run.program run.limit made.asked)
+
+-- the answer of an undisturbed call is one to the bytes that its input told of
+told_answer : (command : Command) (known : Status) (input : InputEdge) (output : OutputEdge) (board : Option Whole) (bytes : List ℕ) {Writing : List ℕ → Type 0}
+    → IsUndisturbed input output bytes → (why : Answered command known input board Writing) → Answers command bytes known why.text board
+told_answer command known input output board bytes calm why =
     let same : why.bytes ≡ bytes = whole_is_told input.old input.new input_limit why.bytes bytes calm.told why.read in
-    absurd (no_answer one command bytes served why.text board
-    (subst (λ (bs : List ℕ). Answers command bs Refused why.text board) same why.answers))
-completes_explained one command BadTrace input output board why bytes calm served = absurd why
-completes_explained one command Differs input output board why bytes calm served = absurd why
-completes_explained one command OutOfMemory input output board why bytes calm served = inr refl
+    subst (λ (bs : List ℕ). Answers command bs known why.text board) same why.answers
+
+-- where each answer to the bytes has this status, so has an undisturbed call, by cases of how it ended
+completes_at : (wanted : Status) (command : Command) (status : Status) (input : InputEdge) (output : OutputEdge) (board : Option Whole) (bytes : List ℕ)
+    → ((answered : Status) (text : List ℕ) → Answers command bytes answered text board → answered ≡ wanted)
+    → IsUndisturbed input output bytes → Explains command status input output board → EndsWith wanted status
+completes_at wanted command Ok input output board bytes only calm why = inl (only Ok why.text (told_answer command Ok input output board bytes calm why))
+completes_at wanted command Usage input output board bytes only calm why = absurd why
+completes_at wanted command ReadFault input output board bytes only calm why = absurd (calm.read why.0)
+completes_at wanted command WriteFault input output board bytes only calm why = absurd (calm.written why.written.failed)
+completes_at wanted command TooLarge input output board bytes only calm why =
+    absurd (gives_no_more input.old input.new bytes calm.told calm.fits why.0)
+completes_at wanted command Refused input output board bytes only calm why =
+    inl (only Refused why.text (told_answer command Refused input output board bytes calm why))
+completes_at wanted command BadTrace input output board bytes only calm why =
+    inl (only BadTrace why.text (told_answer command BadTrace input output board bytes calm why))
+completes_at wanted command Differs input output board bytes only calm why = absurd why
+completes_at wanted command OutOfMemory input output board bytes only calm why = inr refl
+
+-- how an undisturbed call ends, by what its input is
+pub completes_explained : HasOneAnswer → (command : Command) (status : Status) (input : InputEdge) (output : OutputEdge) (board : Option Whole)
+    → Explains command status input output board → (bytes : List ℕ) → IsUndisturbed input output bytes → Ends command status bytes
+completes_explained one command status input output board why bytes calm = record {
+  served = λ served. completes_at Ok command status input output board bytes (λ answered text. served_answer one command bytes served answered text board) calm why;
+  untraced = λ lacks. completes_at BadTrace command status input output board bytes (λ answered text. untraced_answer one command bytes lacks answered text board) calm why;
+}

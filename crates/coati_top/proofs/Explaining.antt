@@ -5,9 +5,9 @@ use Rattle.coati_io.specs.Ends.{ReadsWhole, ConsumesExactly}
 use Rattle.coati_board.specs.Board.{Whole}
 use Rattle.coati_top.specs.declared.command.Command.{Command}
 use Rattle.coati_top.specs.declared.status.Status.{Status}
-use Rattle.coati_top.specs.declared.status.Status.TheVariants.{Ok, WriteFault, TooLarge, Refused, OutOfMemory}
+use Rattle.coati_top.specs.declared.status.Status.TheVariants.{Ok, WriteFault, TooLarge, BadTrace, Refused, OutOfMemory}
 use Rattle.coati_top.specs.Answer.{Answers}
-use Rattle.coati_top.specs.Answer.Answers.{refused, measured, listed, ran}
+use Rattle.coati_top.specs.Answer.Answers.{refused, measured, listed, untraced, ran}
 use Rattle.coati_top.specs.Refusal.{too_large_text}
 use Rattle.coati_top.specs.Call.{InputEdge, OutputEdge, WritesAll, WritesFront, Writes, Answered, Explains, after_fault, Delivers, AnswersTo, input_limit}
 use Rattle.coati_top.specs.Call.AnswersTo.{delivered, starved}
@@ -49,6 +49,12 @@ module _ (command : Command) (input : InputEdge) (output : OutputEdge) (board : 
     explains_delivered status before text (listed program by source is text_is none) (inr front) =
         explained_at status WriteFault (front.0 ∙ ap after_fault is)
         (answered before Ok text (WritesFront output) is (listed program by source is text_is none) front.1)
+    explains_delivered status before text (untraced mode fault by faulty is text_is none) (inl all) =
+        explained_at status BadTrace (all.0 ∙ is)
+        (answered before BadTrace text (Writes output) is (untraced mode fault by faulty is text_is none) (inl all.1))
+    explains_delivered status before text (untraced mode fault by faulty is text_is none) (inr front) =
+        explained_at status BadTrace (front.0 ∙ ap after_fault is)
+        (answered before BadTrace text (Writes output) is (untraced mode fault by faulty is text_is none) (inr front.1))
     explains_delivered status before text (ran mode run by made is text_is some) (inl all) =
         explained_at status Ok (all.0 ∙ is)
         (answered before Ok text (WritesAll output) is (ran mode run by made is text_is some) all.1)

@@ -88,7 +88,7 @@ Explains command WriteFault input output board = Answered command Ok input board
 Explains command TooLarge input output board =
     ConsumesExactly input.old input.new (input_limit + 1) × Writes output too_large_text × (board ≡ None)
 Explains command Refused input output board = Answered command Refused input board (Writes output)
-Explains command BadTrace input output board = ⊥
+Explains command BadTrace input output board = Answered command BadTrace input board (Writes output)
 Explains command Differs input output board = ⊥
 Explains command OutOfMemory input output board = WritesNothing output × (board ≡ None)
 

@@ -1,13 +1,14 @@
 -- Where a call has to succeed: a command that serves the input of a call whose ends do not fail.
 use Rattle.std.specs.Prelude.{◌≡◌, ◌⊎◌, ◌≢◌, ◌≤◌, ℕ, List, length, Option, Some, None}
 use Rattle.task_syntax.specs.declared.program.Program.{Program}
-use Rattle.coati_top.specs.Answer.{AsksFor}
+use Rattle.trace_text.specs.declared.fault.TraceFault.{TraceFault}
+use Rattle.coati_top.specs.Answer.{AsksFor, HasFaultyTrace}
 use Rattle.coati_top.specs.Call.{InputEdge, OutputEdge, ReadingFailed, WritingFailed, input_limit}
 use Rattle.coati_top.specs.declared.command.Command.{Command}
 use Rattle.coati_top.specs.declared.command.Command.TheVariants.{Check, Dump, Run}
 use Rattle.coati_top.specs.Source.{HasAccepted}
 use Rattle.coati_top.specs.declared.status.Status.{Status}
-use Rattle.coati_top.specs.declared.status.Status.TheVariants.{Ok, ReadFault, OutOfMemory}
+use Rattle.coati_top.specs.declared.status.Status.TheVariants.{Ok, BadTrace, ReadFault, OutOfMemory}
 
 -- the input told of these bytes, which are within the limit, and no count of faults rose
 pub record IsUndisturbed (input : InputEdge) (output : OutputEdge) (bytes : List ℕ) : Type 0 where
@@ -21,7 +22,7 @@ pub record IsMeasurable (bytes : List ℕ) : Type 0 where
   pub program : Program
   pub source : HasAccepted bytes program
 
--- the source is an accepted program of the first form, and the second part a limit
+-- the source is an accepted program of the first form, and the trace a limit alone
 pub record IsRunnable (bytes : List ℕ) : Type 0 where
   pub program : Program
   pub limit : ℕ
@@ -33,15 +34,30 @@ IsServed Check bytes = IsMeasurable bytes
 IsServed Dump bytes = IsMeasurable bytes
 IsServed (Run mode) bytes = IsRunnable bytes
 
--- the call succeeds, unless memory ran out
-abbrev pub Succeeds : Status → Type 0
-Succeeds status = (status ≡ Ok) ⊎ (status ≡ OutOfMemory)
+-- the program of the source is of the first form, but the second part is no trace
+pub record IsUntraced (bytes : List ℕ) : Type 0 where
+  pub fault : TraceFault
+  pub faulty : HasFaultyTrace bytes fault
 
--- an undisturbed call on an input that the command serves succeeds
+-- the command reads a trace, and an input of these bytes has none
+abbrev pub LacksTrace : Command → List ℕ → Type 0
+LacksTrace Check bytes = ⊥
+LacksTrace Dump bytes = ⊥
+LacksTrace (Run mode) bytes = IsUntraced bytes
+
+-- the call ends so, unless memory ran out
+abbrev pub EndsWith : Status → Status → Type 0
+EndsWith wanted status = (status ≡ wanted) ⊎ (status ≡ OutOfMemory)
+
+-- an undisturbed call succeeds on an input that the command serves, and tells what is wrong with a trace
+pub record Ends (command : Command) (status : Status) (bytes : List ℕ) : Type 0 where
+  pub served : IsServed command bytes → EndsWith Ok status
+  pub untraced : LacksTrace command bytes → EndsWith BadTrace status
+
 abbrev pub Completes : Option Command → Status → InputEdge → OutputEdge → Type 0
 Completes None status input output = Unit {0}
 Completes (Some command) status input output =
-    (bytes : List ℕ) → IsUndisturbed input output bytes → IsServed command bytes → Succeeds status
+    (bytes : List ℕ) → IsUndisturbed input output bytes → Ends command status bytes
 
 -- an input of which no read fails counts no fault, and a call does not end with one
 pub record IsSteadyInput (status : Status) (input : InputEdge) : Type 0 where

@@ -6,10 +6,10 @@ pub mod Complete
 pub mod Divided
 pub mod Ended
 pub mod FormParts
-pub mod LimitLine
 pub mod Lines
 pub mod Printed
 pub mod Refusal
 pub mod Source
 pub mod SourceFaults
+pub mod TraceRefusal
 pub mod Words

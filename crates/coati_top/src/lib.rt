@@ -8,7 +8,6 @@ mod divided;
 mod drive;
 mod first_form;
 mod laws;
-mod limit_line;
 mod output;
 mod printed;
 mod refusal;
@@ -16,6 +15,7 @@ mod source;
 mod source_fault;
 mod status;
 mod still;
+mod trace_refusal;
 
 pub use command::{Command, command_of};
 pub use laws::{an_input_has_one_division, spelled_programs_are_well_formed};

@@ -11,6 +11,7 @@ use std::alloc::Global;
 use task_check::laws::refused_is_not_accepted;
 use task_lex::each_source_has_one_answer;
 use task_parse::{a_list_is_one_program, each_list_has_one_answer};
+use trace_text::each_text_has_one_answer;
 
 /// Does what the words say, from the input to the output. It returns, whatever these do.
 pub fn coati_still<S: Source, K: Sink>(
@@ -29,6 +30,7 @@ pub fn coati_still<S: Source, K: Sink>(
     a_list_is_one_program();
     each_list_has_one_answer();
     refused_is_not_accepted();
+    each_text_has_one_answer();
     match command_of(words) {
         None => Done {
             status: deliver(output, Status::Usage, USAGE),

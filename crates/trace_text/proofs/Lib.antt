@@ -1,8 +1,10 @@
 pub mod Cuts
+pub mod Examples
 pub mod Forms
 pub mod Limits
 pub mod LineCounts
 pub mod Numbers
 pub mod Openings
-pub mod Refusals
 pub mod Readings
+pub mod Refusals
+pub mod ScriptNumbers

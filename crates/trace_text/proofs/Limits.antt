@@ -1,18 +1,12 @@
 -- Scripts within the limits, and beyond them.
-use Rattle.std.proofs.Common.{◌≡◌, ℕ, ◌≤◌, true, false, ◌&&◌, List, [], ◌∷◌, length, refl, arith, get_or, suc, zero}
+use Rattle.std.proofs.Common.{◌≡◌, ℕ, ◌≤◌, true, false, ◌&&◌, List, [], ◌∷◌, length, refl, arith, get_or, suc, zero, Option, Some, IfSome}
 use Rattle.std.specs.Prelude.{nat_le}
 use Rattle.std.proofs.lemmas.Bool.{and_parts, and_from, le-leb, leb-true, false_from_ne_true}
 use Rattle.coati_word.specs.declared.limits.TheConstants.{EXECUTOR_STEPS, MACHINE_STEPS, POSTINGS, POWER_PERIODS}
 use Rattle.serial_log.specs.declared.script.Posting.{Posting}
 use Rattle.serial_log.specs.declared.script.Script.{Script}
 use Rattle.task_syntax.specs.declared.program.Program.{Program}
-use Rattle.trace_text.specs.Trace.{is_within, last_time, run_bound}
-
-pub record IsWithin (program : Program) (script : Script) : Type 0 where
-  pub limit : script.limit ≤ EXECUTOR_STEPS
-  pub power : length script.power ≤ POWER_PERIODS
-  pub postings : length script.postings ≤ POSTINGS
-  pub run : run_bound program script ≤ MACHINE_STEPS
+use Rattle.trace_text.specs.Trace.{IsWithin, Leads, is_within, last_time, nothing, quiet, run_bound, said}
 
 pub is_within-parts : (program : Program) (script : Script) → is_within program script ≡ true → IsWithin program script
 is_within-parts program script is =
@@ -52,3 +46,12 @@ last_time-get [] place other counted = absurd (omega arith)
 last_time-get (posting ∷ []) place other counted = let e : place ≡ 0 = omega arith in rw e refl
 last_time-get (posting ∷ next ∷ more) zero other counted = absurd (omega arith)
 last_time-get (posting ∷ next ∷ more) (suc place) other counted = last_time-get (next ∷ more) place other (omega arith)
+
+-- lines lead from scripts within the limits to scripts within them
+pub leads_within : (program : Program) (told last : Option Script) (lines : List (List ℕ)) → IfSome told (λ script. is_within program script ≡ true)
+    → Leads program told lines last → IfSome last (λ script. is_within program script ≡ true)
+leads_within program told _ _ within (nothing _) = within
+leads_within program told last _ within (quiet _ line more _ is behind) = leads_within program told last more within behind
+leads_within program told last _ within (said _ line script more _ heard tells behind) =
+    let here : is_within program script ≡ true = rw tells.behind tells.within in
+    leads_within program (Some script) last more here behind

@@ -1,9 +1,11 @@
 -- Which script a text is, and why a text is none. Each line is read where those before it lead: to no
 -- script before the line of the limit, and then to the script that they tell.
-use Rattle.std.specs.Prelude.{ℕ, ◌≡◌, ◌≢◌, ◌+◌, ◌*◌, ◌==◌, Bool, true, false, ◌&&◌, not, List, [], ◌∷◌, ◌++◌, Option, Some, None, codes, filter, length, nat_le, replicate, unwrap_or}
+use Rattle.std.specs.Prelude.{ℕ, ◌≡◌, ◌≢◌, ◌<◌, ◌≤◌, ◌+◌, ◌*◌, ◌==◌, Bool, true, false, ◌&&◌, not, List, [], ◌∷◌, ◌++◌, Option, Some, None, codes, filter, length, nat_le, replicate, unwrap_or}
 use Rattle.std.specs.Option.{is_some}
+use Rattle.std.specs.List.{All}
+use Rattle.std.specs.List.Sorted.{IsNonDecreasingBy}
 use Rattle.coati_text.specs.Line.{lines_of}
-use Rattle.coati_word.specs.declared.limits.TheConstants.{EXECUTOR_STEPS, MACHINE_STEPS, POSTINGS, POWER_PERIODS}
+use Rattle.coati_word.specs.declared.limits.TheConstants.{EXECUTOR_STEPS, MACHINE_STEPS, PERIOD_STEPS, POSTINGS, POWER_PERIODS}
 use Rattle.serial_log.specs.declared.script.Posting.{Posting}
 use Rattle.serial_log.specs.declared.script.Script.{Script}
 use Rattle.task_cost.specs.Limits.{handler_bound}
@@ -13,7 +15,7 @@ use Rattle.trace_text.specs.declared.fault.TraceFault.TheVariants as fault
 use Rattle.trace_text.specs.declared.statement.Statement.{Statement}
 use Rattle.trace_text.specs.declared.statement.Statement.TheVariants.{Limit, Power, At}
 use Rattle.trace_text.specs.Fields.{first_word, is_quiet}
-use Rattle.trace_text.specs.Statements.{Says}
+use Rattle.trace_text.specs.Statements.{Says, greatest_argument, greatest_device}
 
 -- a script of which nothing is told
 abbrev pub blank : Script
@@ -61,6 +63,25 @@ abbrev pub is_within : Program → Script → Bool
 is_within program script =
     nat_le script.limit EXECUTOR_STEPS && nat_le (length script.power) POWER_PERIODS
     && nat_le (length script.postings) POSTINGS && nat_le (run_bound program script) MACHINE_STEPS
+
+-- the script is within all limits
+pub record IsWithin (program : Program) (script : Script) : Type 0 where
+  pub limit : script.limit ≤ EXECUTOR_STEPS
+  pub power : length script.power ≤ POWER_PERIODS
+  pub postings : length script.postings ≤ POSTINGS
+  pub run : run_bound program script ≤ MACHINE_STEPS
+
+-- a posting that a trace of the program may tell
+pub record IsPosting (program : Program) (posting : Posting) : Type 0 where
+  pub device : posting.device ≤ greatest_device
+  pub event : posting.event < length program.events
+  pub argument : posting.argument ≤ greatest_argument
+
+-- its periods and postings are such that a trace of the program may tell them, and times never fall
+pub record IsScriptFor (program : Program) (script : Script) : Type 0 where
+  pub periods : All (λ period. (1 ≤ period) × (period ≤ PERIOD_STEPS)) script.power
+  pub postings : All (IsPosting program) script.postings
+  pub in_time : IsNonDecreasingBy (λ (posting : Posting). posting.time) script.postings
 
 -- the line is refused for one of these reasons, which are read in this order
 abbrev pub IsBad : Program → Option Script → List ℕ → Type 0

@@ -6,7 +6,7 @@ ghost use Rattle.task_syntax.specs.declared.program.Program.{Program};
 ghost use Rattle.trace_text.specs.Answer.{IsAnswered};
 ghost use Rattle.trace_text.specs.Fields.{fields_of, space};
 ghost use Rattle.trace_text.specs.Statements.{Says};
-ghost use Rattle.trace_text.specs.Trace.{FirstFault, TraceText};
+ghost use Rattle.trace_text.specs.Trace.{FirstFault, IsScriptFor, IsWithin, TraceText};
 ghost use Rattle.trace_text.specs.declared.statement.Statement.{Statement};
 
 use crate::TraceFault;
@@ -20,6 +20,15 @@ pub fn each_text_has_one_answer()
         → FirstFault program text fault → FirstFault program text other → fault ≡ other }
     ensures apart { (program : Program) (text : List ℕ) (script : Script) (fault : TraceFault)
         → TraceText program text script → FirstFault program text fault → ⊥ }
+{}
+
+/// The script of a text is within all limits, its postings are of the program's events, and their
+/// times never fall.
+pub fn scripts_are_within_the_limits()
+    ensures within { (program : Program) (text : List ℕ) (script : Script)
+        → TraceText program text script → IsWithin program script }
+    ensures numbers { (program : Program) (text : List ℕ) (script : Script)
+        → TraceText program text script → IsScriptFor program script }
 {}
 
 /// A line is its fields with a space between each two, and says at most one thing.

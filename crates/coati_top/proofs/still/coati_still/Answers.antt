@@ -16,5 +16,7 @@ returns-in-Some-clause-complete g c =
       syntax = c.each_list_has_one_answer.ensures.program;
       deep = c.each_list_has_one_answer.ensures.free;
       rule = c.refused_is_not_accepted.ensures;
+      script = c.each_text_has_one_answer.ensures.script;
+      traced = c.each_text_has_one_answer.ensures.apart;
     } in
     rw is (completes_explained one c.in-Some.command c.run.result.status input output c.run.result.board c.run.ensures.explained)

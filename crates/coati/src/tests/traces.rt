@@ -64,7 +64,10 @@ fn a_faulty_trace_is_told(rt: HostRuntime) -> Result<(), Fail> {
         ("limit 500001\n", "line 1 many"),
         ("limit 9\npower 5 times 4097\n", "line 2 many"),
         ("limit 9\npower 5 times 4294967295\n", "line 2 many"),
-        ("limit 9\npower 5 times 4096\n# one more\npower 5\n", "line 4 many"),
+        (
+            "limit 9\npower 5 times 4096\n# one more\npower 5\n",
+            "line 4 many",
+        ),
     ];
     for (trace, fault) in table {
         let input = format!(in alloc; "{COUNTING}{trace}")?;
@@ -82,7 +85,11 @@ fn a_trace_is_run_up_to_its_limit(rt: HostRuntime) -> Result<(), Fail> {
     let alloc = rt.alloc();
     let table = [
         ("limit 1000", Status::Ok, "coati split\n"),
-        ("# a long run\n\nlimit 500000\n# the end", Status::Ok, "coati split\n"),
+        (
+            "# a long run\n\nlimit 500000\n# the end",
+            Status::Ok,
+            "coati split\n",
+        ),
         ("limit 1000\npower 5\n", Status::Refused, "refused later\n"),
     ];
     for (trace, status, text) in table {
@@ -119,8 +126,14 @@ fn postings_are_read(rt: HostRuntime) -> Result<(), Fail> {
     let postings = read.postings.as_slice();
     assert_eq!(rt; postings.len(), 2);
     let (first, second) = (postings[0], postings[1]);
-    assert_eq!(rt; (first.time, first.device, first.event, first.argument), (5, 0, 0, 1));
-    assert_eq!(rt; (second.time, second.device, second.event, second.argument), (5, 7, 1, 65535));
+    assert_eq!(rt;
+        (first.time, first.device, first.event, first.argument),
+        (5, 0, 0, 1)
+    );
+    assert_eq!(rt;
+        (second.time, second.device, second.event, second.argument),
+        (5, 7, 1, 65535)
+    );
     Ok(())
 }
 
@@ -150,7 +163,11 @@ fn postings_are_counted(rt: HostRuntime) -> Result<(), Fail> {
     for (limit, count, name, fault) in table {
         let trace = many_postings(alloc, limit, count, name)?;
         let read = script(&rt, alloc, &checked, trace.as_bytes());
-        assert_eq!(rt; read.err(), fault, "{count} postings of {name} within {limit}");
+        assert_eq!(rt;
+            read.err(),
+            fault,
+            "{count} postings of {name} within {limit}"
+        );
     }
     Ok(())
 }

@@ -41,6 +41,13 @@ impl Cpu {
         }
     }
 
+    /// The body that it runs.
+    pub fn body(&self) -> BodyId
+        ensures { result ≡ self.now.body }
+    {
+        self.body
+    }
+
     /// One machine step on the code that the machine was started on. It makes the move of the
     /// instruction at the place, or a part of it where that is a store. No memory is taken.
     pub fn step<V: View>(&mut self, code: &Code, view: &mut V) -> Turn

@@ -34,9 +34,13 @@ pub fn older_write(image: &Image) -> Option<Write>
     ensures { let s = state image.now in
         IsNext image.now (changes_below (older_changes s) (length_in s tx_log)) result }
 {
+    let count = image.length(Log::Tx);
+    if count == 0 {
+        return None;
+    }
     let layout = image.layout();
     let newer = places(image, Log::Task);
-    for i in 0..image.length(Log::Tx) {
+    for i in 0..count {
         let (word, value) = image.pair(Log::Tx, i);
         if newer[word as usize].is_none() && image.variable(word) != value {
             return Some(Write {

@@ -1,20 +1,28 @@
 -- The write of a part, by its address.
-use Rattle.std.proofs.Common.{◌≡◌, ℕ, ◌<◌, refl, sym, ap, subst, true, false, Some, None, Option}
+use Rattle.std.proofs.Common.{◌≡◌, ℕ, zero, suc, ◌<◌, refl, sym, ap, subst, arith, true, false, Some, None, Option}
 use Rattle.nv_memory.specs.declared.log.Log.{Log}
 use Rattle.nv_memory.specs.declared.write.Write.{Write}
 use Rattle.nv_memory.specs.Seats.{Memory, address}
 use Rattle.nv_memory.specs.State.{State, Writes, state}
 use Rattle.nv_memory.specs.Logs.{HasLog, log_index, log_length, log_value, number_in, pair_value_in, seats_of}
 use Rattle.nv_memory.specs.InRange.{InRange}
-use Rattle.nv_memory.proofs.Looks.{look_none, look_some}
+use Rattle.nv_memory.proofs.Looks.{index_none, look_none, look_some}
 use Rattle.nv_memory.proofs.LogWrites.{room_for_new}
 use Rattle.nv_memory.proofs.Puts.{writes_at}
 use Rattle.nv_memory.proofs.Seats.{number_seat, value_seat}
-use Rattle.task_buffer.specs.Stores.{change_at, ends_at, store_change, store_ends}
+use Rattle.task_buffer.specs.Stores.{IsBegun, change_at, ends_at, store_change, store_ends}
 
 module _ (s : State) (log : Log) (word : ℕ) where
   pub none_of_index : log_index s log word ≡ None → log_value s log word ≡ None
   none_of_index e = look_none (number_in s (seats_of log)) (pair_value_in s (seats_of log)) (log_length s log) word e
+
+  -- a store that goes on has found none
+  pub none_once_begun : (value part : ℕ) → IsBegun s log word value part → 0 < part → None ≡ log_index s log word
+  none_once_begun value zero begun l = absurd (omega arith)
+  none_once_begun value (suc zero) begun l =
+      sym (index_none (number_in s (seats_of log)) (pair_value_in s (seats_of log)) (log_length s log) word begun.0)
+  none_once_begun value (suc (suc more)) begun l =
+      sym (index_none (number_in s (seats_of log)) (pair_value_in s (seats_of log)) (log_length s log) word begun.0)
 
   -- where the log has the word the store ends
   pub ends_by_index : (part i : ℕ) → log_index s log word ≡ Some i → true ≡ store_ends s log word part

@@ -1,6 +1,6 @@
 ghost use Rattle.std.specs.Prelude.{◌≡◌, ◌<◌, MatchOption};
 ghost use Rattle.nv_memory.specs.InRange.{InRange};
-ghost use Rattle.nv_memory.specs.Logs.{HasLog, log_length, seats_of};
+ghost use Rattle.nv_memory.specs.Logs.{HasLog, log_index, log_length, seats_of};
 ghost use Rattle.nv_memory.specs.State.{Writes, set_to, state};
 ghost use Rattle.task_buffer.specs.Stores.{IsBegun, store_change, store_ends};
 
@@ -17,7 +17,7 @@ pub fn store_write(img: &Image, log: Log, word: u16, value: u16, part: u8) -> (W
     ensures ends { result.1 ≡ store_ends (state img.now) log word part }
 {
     let layout = img.layout();
-    if let Some(i) = img.index(log, word) {
+    if let Some(i) = place(img, log, word, value, part) {
         let at = layout.value(log, i);
         return (Write { at, word: value }, true);
     }
@@ -37,6 +37,21 @@ pub fn store_write(img: &Image, log: Log, word: u16, value: u16, part: u8) -> (W
             (Write { at, word }, true)
         }
     }
+}
+
+// Which pair of the log has the word. A store that goes on has found none, so only its first part walks the log.
+#[tactic(auto, using(crate::proofs::Parts::none_once_begun))]
+fn place(img: &Image, log: Log, word: u16, value: u16, part: u8) -> Option<u16>
+    requires range { InRange (state img.now) }
+    requires log { HasLog img.now.k log }
+    requires begun { IsBegun (state img.now) log word value part }
+    ensures index { result ≡ log_index (state img.now) log word }
+    ensures low { MatchOption result Unit (λ i. i < log_length (state img.now) log) }
+{
+    if part > 0 {
+        return None;
+    }
+    img.index(log, word)
 }
 
 /// The write that empties a log; none exactly where it has no pair.

@@ -1,0 +1,270 @@
+-- A step of the machine in a task keeps what a device keeps.
+use Rattle.std.proofs.Common.{◌≡◌, ℕ, List, [], ◌++◌, length, Some, None, refl, sym, ap, subst, ◌∙◌, append-nil}
+use Rattle.std.specs.Option.{option_or}
+use Rattle.coati_word.specs.declared.ending.Ending.{Ending}
+use Rattle.coati_word.specs.declared.reading.Reading.{Reading}
+use Rattle.task_syntax.specs.declared.program.Program.{Program}
+use Rattle.task_syntax.specs.declared.body.BodyId.TheVariants.{Task}
+use Rattle.task_syntax.specs.Course.{Access, Store, readings}
+use Rattle.task_syntax.specs.CourseLaws.{AccessesJoinUp, CoursesUnderWayGoOn}
+use Rattle.task_syntax.specs.Names.{tasks}
+use Rattle.task_syntax.specs.Units.{place_after, task_course}
+use Rattle.task_syntax.specs.Written.{last_written}
+use Rattle.nv_memory.specs.declared.log.Log.{Log}
+use Rattle.nv_memory.specs.declared.log.Log.TheVariants as log
+use Rattle.nv_memory.specs.Frames.{StandsForTheSame}
+use Rattle.nv_memory.specs.Ring.{Entry}
+use Rattle.nv_memory.specs.Seats.{Memory}
+use Rattle.nv_memory.specs.State.{State, state}
+use Rattle.nv_memory.specs.Words.{current, mark}
+use Rattle.serial_log.specs.declared.held.Held.{Held}
+use Rattle.serial_log.specs.Standing.{Standing, standing_of}
+use Rattle.commit_log.specs.OpenUnit.{KeepsUnit}
+use Rattle.task_buffer.specs.StoreLaws.{StoresSetTheValue}
+use Rattle.codegen.specs.Bodies.{program_code}
+use Rattle.word_code.specs.FollowingLaws.{FollowingGoesOn}
+use Rattle.word_code.specs.Code.{body_words}
+use Rattle.word_code.specs.declared.instruction.Instr.{Instr}
+use Rattle.word_code.specs.Machine.{StartsAt, move_of}
+use Rattle.word_cpu.specs.declared.cpu.Cpu.{Cpu}
+use Rattle.word_cpu.specs.declared.turn.Turn.{Turn}
+use Rattle.word_cpu.specs.declared.turn.Turn.TheVariants.{Went, Storing, Ended}
+use Rattle.word_cpu.specs.OnCourse.{done_by, read_by}
+use Rattle.word_cpu.specs.Turning.{IsStep, state_of}
+use Rattle.word_cpu.specs.UnderWay.{CameFurther, CameToTheEnd, ComesOn, IsUnderWay}
+use Rattle.word_cpu.proofs.OnCourse.{can_step, steps_along}
+use Rattle.word_cpu.proofs.UnderWay.{steps_under_way}
+use Rattle.coati_device.specs.declared.device.Device.{Device}
+use Rattle.coati_device.specs.declared.device.Phase.{Phase}
+use Rattle.coati_device.specs.declared.device.Phase.TheVariants.{Run}
+use Rattle.coati_device.specs.Attempt.{HasEnded, HasMade, IsAtTask, IsAttempt, IsRunning, base_word}
+use Rattle.coati_device.specs.Kept.{Kept, after_turn}
+use Rattle.coati_device.specs.Laws.{Fits}
+use Rattle.coati_device.specs.OpenUnit.{has_unit}
+use Rattle.coati_device.specs.Points.{AreHeld, IsFit, IsMemoryOf, Reads, StandsFor, reads_of}
+use Rattle.coati_device.specs.Rows.{phase_after}
+use Rattle.coati_device.specs.TaskView.{task_view}
+use Rattle.coati_device.proofs.Attempts.{in_task, running_of}
+use Rattle.coati_device.proofs.OpenUnits.{open_unit_kept}
+use Rattle.coati_device.proofs.TaskWrites.{IsReadyForSteps, LeavesAllElse, MakesMore, base_stays, makes_more}
+
+-- memory is still one of the program
+still_of : (program : Program) (own : Log) (m new : Memory) (more : List Access)
+    → IsMemoryOf program m → MakesMore own m new more → IsMemoryOf program new
+still_of program own m new more memory made =
+    let keeps = made.logs.else_stays.keeps in
+    record {
+      memory = made.memory;
+      words = made.words ∙ memory.words;
+      slots = made.slots ∙ memory.slots;
+      range = keeps.range;
+      places = keeps.places (length (tasks program)) memory.places;
+      closed = keeps.closed;
+      split = made.logs.else_stays.same_mode ∙ memory.split;
+    }
+
+-- the open unit stays
+still_unit : (s t : State) → mark s ≡ 0 → LeavesAllElse s t → KeepsUnit s t
+still_unit s t clear stays =
+    let then : mark t ≡ 0 = stays.same_mark ∙ clear in
+    record {
+      log = λ word. rw (then, clear) (stays.transaction word);
+      flags = λ word low. rw (then, clear) (stays.tx_flags word);
+      next = rw (then, clear) stays.same_current;
+    }
+
+still_open : (s t : State) → LeavesAllElse s t → has_unit t ≡ has_unit s
+still_open s t stays = rw (stays.same_mark, stays.same_opened) refl
+
+still_stands : (program : Program) (s t : State) (standing : Standing) → StandsForTheSame s t
+    → StandsFor program s standing → StandsFor program t standing
+still_stands program s t standing same stands = record {
+  words = λ word. same.words word ∙ stands.words word;
+  place = same.place ∙ stands.place;
+  held =
+      subst (λ (entries : List Entry). AreHeld program entries standing.rest) (sym same.held)
+      stands.held;
+}
+
+-- a step keeps what a device keeps, but for the attempt
+pub fit_on : (program : Program) (own : Log) (m new : Memory) (reads : Reads) (kept : List Reading)
+    (before after : Phase) (standing : Standing) (more : List Access)
+    → IsFit program (program_code program) m reads before standing → mark (state m) ≡ 0
+    → MakesMore own m new more
+    → IsAttempt program (program_code program) new standing.rest kept after
+    → IsFit program (program_code program) new (record reads { attempt = kept }) after standing
+fit_on program own m new reads kept before after standing more fit clear makes attempt =
+    let stays = makes.logs.else_stays in
+    record {
+      memory = still_of program own m new more fit.memory makes;
+      not_doomed = stays.same_doomed ∙ fit.not_doomed;
+      stands = still_stands program (state m) (state new) standing stays.keeps.meaning fit.stands;
+      waiting = fit.waiting;
+      place = fit.place;
+      unit =
+          open_unit_kept program (state m) (state new) standing.run reads.unit reads.finished
+          (still_unit (state m) (state new) clear stays) (still_open (state m) (state new) stays)
+          fit.unit;
+      attempt = attempt;
+    }
+
+still_at : (program : Program) (s t : State) → LeavesAllElse s t → IsAtTask program s
+    → IsAtTask program t
+still_at program s t stays at = record {
+  clear = record {
+    mark = stays.same_mark ∙ at.clear.mark;
+    doomed = stays.same_doomed ∙ at.clear.doomed;
+  };
+  task = rw stays.same_current at.task;
+}
+
+-- what the attempt has read after a step
+pub read_after : (kept : Kept) (turn : Turn)
+    → (after_turn kept turn).items ≡ kept.items ++ read_by turn
+read_after kept (Went None) = sym (append-nil kept.items)
+read_after kept (Went (Some reading)) = refl
+read_after kept Storing = sym (append-nil kept.items)
+read_after kept (Ended ending) = sym (append-nil kept.items)
+
+-- the log has more accesses, and the attempt has read more
+made_on : AccessesJoinUp → (m new : Memory) (read reads : List Reading) (done more : List Access)
+    → HasMade (state m) read done → MakesMore log.Task m new more → readings more ≡ reads
+    → HasMade (state new) (read ++ reads) (done ++ more)
+made_on joins m new read reads done more made makes same = record {
+  log = λ word.
+      makes.logs.log word
+      ∙ ap (option_or (last_written more word)) (made.log word)
+      ∙ sym ((joins done more).last word);
+  reads =
+      ap (λ (r : List Reading). r ++ reads) made.reads
+      ∙ ap (λ (r : List Reading). readings done ++ r) (sym same)
+      ∙ sym (joins done more).read;
+}
+
+-- the body has ended
+ends_at : (program : Program) (m new : Memory) (read : List Reading) (done : List Access)
+    (ending : Ending) → IsAtTask program (state m) → HasMade (state m) read done
+    → CameToTheEnd task_view (task_course program (current (state m))) (base_word (state m)) done m
+    new ending
+    → HasEnded program new (read ++ []) (place_after ending)
+ends_at program m new read done ending at made came =
+    subst (λ (x : Memory). HasEnded program x (read ++ []) (place_after ending)) (sym came.view)
+    (subst (λ (r : List Reading). HasEnded program m r (place_after ending)) (sym (append-nil read))
+    (record {
+      at = at;
+      made = subst (HasMade (state m) read) came.all made;
+      leads = ap place_after came.ending_is;
+    }))
+
+-- the machine is under way in the task of a number
+abbrev IsIn : Program → Cpu → Memory → (left number : ℕ) → Store → List Access → Type 0
+IsIn program cpu m left number base done =
+    IsUnderWay task_view (program_code program) cpu m left (task_course program number) base done
+
+module _ (program : Program) (m new : Memory) (read : List Reading) (before after : Cpu)
+    (here : IsRunning program (program_code program) m read before) where
+  -- a step brought it further
+  abbrev Came : Turn → Type 0
+  Came turn =
+      CameFurther task_view (program_code program) here.left
+      (task_course program (current (state m))) (base_word (state m)) here.done before after m new
+      turn
+
+  -- what a step came to
+  abbrev Comes : Turn → Type 0
+  Comes turn =
+      ComesOn task_view (program_code program) here.left (task_course program (current (state m)))
+      (base_word (state m)) here.done before after m new turn
+
+  runs_on : AccessesJoinUp → after.body ≡ before.body → (turn : Turn) (came : Came turn)
+      → MakesMore log.Task m new came.more
+      → IsRunning program (program_code program) new (read ++ read_by turn) after
+  runs_on joins same turn came makes =
+      let stays = makes.logs.else_stays in
+      let done = here.done ++ came.more in
+      record {
+        at = still_at program (state m) (state new) stays here.at;
+        body = same ∙ here.body ∙ ap Task (sym stays.same_current);
+        done = done;
+        made =
+            made_on joins m new read (read_by turn) here.done came.more here.made makes came.reads;
+        left = came.remaining;
+        under_way =
+            subst
+            (λ (number : ℕ).
+            IsIn program after new came.remaining number (base_word (state new)) done)
+            (sym stays.same_current)
+            (subst
+            (λ (base : Store). IsIn program after new came.remaining (current (state m)) base done)
+            (sym (base_stays (state m) (state new) stays)) came.under_way);
+      }
+
+  -- it goes on
+  goes_on_in : (rest : List Held) → AccessesJoinUp → after.body ≡ before.body → (turn : Turn)
+      (came : Came turn) → MakesMore log.Task m new came.more
+      → IsAttempt program (program_code program) new rest (read ++ read_by turn) (Run after)
+  goes_on_in rest joins same turn came makes =
+      in_task program (program_code program) new rest (read ++ read_by turn) after
+      (current (state m)) (same ∙ here.body) (runs_on joins same turn came makes)
+
+  -- what a step makes of the attempt
+  attempt_on : (rest : List Held) → AccessesJoinUp → after.body ≡ before.body → (instr : Instr)
+      → StartsAt (body_words (program_code program) before.body) instr (state_of before)
+      → (turn : Turn) → Comes turn
+      → MakesMore log.Task m new (done_by turn (move_of instr (state_of before)))
+      → IsAttempt program (program_code program) new rest (read ++ read_by turn)
+      (phase_after after turn)
+  attempt_on rest joins same instr starts (Went reading) came makes =
+      goes_on_in rest joins same (Went reading) came
+      (subst (MakesMore log.Task m new) (came.more_is instr starts) makes)
+  attempt_on rest joins same instr starts Storing came makes =
+      goes_on_in rest joins same Storing came
+      (subst (MakesMore log.Task m new) (came.more_is instr starts) makes)
+  attempt_on rest joins same instr starts (Ended ending) came makes =
+      ends_at program m new read here.done ending here.at here.made came
+
+-- the row of a machine step
+pub runs_keep : AccessesJoinUp → CoursesUnderWayGoOn Ending → FollowingGoesOn → StoresSetTheValue
+    → (program : Program) (old new : Device) (before after : Cpu) (image : Memory) (turn : Turn)
+    → Fits program old → old.phase ≡ Run before → before.body ≡ Task (current (state old.image))
+    → IsStep task_view (program_code program) before after old.image image turn
+    → new ≡ record old {
+      image = image;
+      phase = phase_after after turn;
+      attempt = after_turn old.attempt turn;
+    } → Fits program new
+runs_keep joins goes_on follows law program old new before after image turn fits running body step
+    is =
+    let m = old.image in
+    let code = program_code program in
+    let standing = standing_of program old.history.marks in
+    let here =
+    running_of program old before (current (state old.image)) fits running body in
+    let on_course = here.under_way.on_course in
+    let can = can_step task_view follows code before m here.left here.under_way.rest on_course in
+    let move = move_of can.0 (state_of before) in
+    let came =
+    steps_under_way task_view joins goes_on (steps_along task_view follows) code before after m
+    image here.left (task_course program (current (state m))) (base_word (state m)) here.done
+    here.under_way turn step in
+    let ready : IsReadyForSteps log.Task m =
+    record {
+      memory = fits.memory.memory;
+      range = fits.memory.range;
+      closed = fits.memory.closed;
+      clear = here.at.clear.mark;
+      has = tt;
+      other = λ e. absurd cc;
+    } in
+    let makes =
+    makes_more m image ready law before after turn move can.1.can_run.word
+    (on_course.is_begun can.0 can.1.starts) (step.makes can.0 can.1.starts) in
+    subst (λ (d : Device). Fits program d) (sym is)
+    (fit_on program log.Task m image (reads_of old) (after_turn old.attempt turn).items old.phase
+    (phase_after after turn) standing (done_by turn move) fits here.at.clear.mark makes
+    (subst
+    (λ (read : List Reading).
+    IsAttempt program code image standing.rest read (phase_after after turn))
+    (sym (read_after old.attempt turn))
+    (attempt_on program m image old.attempt.items before after here standing.rest joins step.body
+    can.0 can.1.starts turn came makes)))

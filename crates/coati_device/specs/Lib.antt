@@ -1,0 +1,13 @@
+pub mod Kept
+pub mod TaskView
+pub mod BottomView
+pub mod ScratchView
+pub mod Ticks
+pub mod Rows
+pub mod Cursors
+pub mod Raises
+pub mod Attempt
+pub mod OpenUnit
+pub mod Endings
+pub mod Points
+pub mod Laws

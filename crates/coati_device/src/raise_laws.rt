@@ -1,0 +1,28 @@
+//! What a raised posting keeps of a device.
+
+ghost use Rattle.coati_device.specs.Laws.{RaisesKeepSound};
+
+use crate::laws::ticks_keep_devices;
+use codegen::laws::accepted_programs_compute_their_courses;
+use event_buffer::laws::{accepts_add_the_newest, parts_fill_the_slot, the_tail_entry_is_free};
+use serial_log::laws::{histories_go_on, marks_join_up, turns_go_on};
+use task_syntax::laws::{accesses_join_up, courses_under_way_go_on};
+use word_code::laws::{following_goes_on, instructions_are_their_words};
+
+/// A raised posting keeps what a device keeps, and its handler makes so many steps at most.
+pub fn raises_keep_devices()
+    ensures { RaisesKeepSound }
+{
+    accesses_join_up();
+    courses_under_way_go_on();
+    following_goes_on();
+    instructions_are_their_words();
+    accepted_programs_compute_their_courses();
+    parts_fill_the_slot();
+    the_tail_entry_is_free();
+    accepts_add_the_newest();
+    histories_go_on();
+    turns_go_on();
+    marks_join_up();
+    ticks_keep_devices();
+}

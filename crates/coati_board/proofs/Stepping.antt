@@ -1,157 +1,172 @@
--- Each step leaves a board.
-use Rattle.std.proofs.Common.{◌≡◌, ℕ, ◌+◌, ◌-◌, ◌*◌, ◌<◌, ◌≤◌, List, [], ◌∷◌, ◌++◌, length, refl, ap, sym, subst, ◌∙◌, arith, None, Some, inl}
-use Rattle.std.proofs.lemmas.List.{length-replicate}
-use Rattle.coati_word.specs.declared.reading.Reading.{Reading}
+-- A step of a board.
+use Rattle.std.proofs.Common.{◌≡◌, ℕ, suc, ◌+◌, ◌-◌, ◌<◌, ◌≤◌, ◌==◌, List, [], ◌∷◌, ◌++◌, refl, sym, ap, subst, ◌∙◌, arith, Bool, true, false, if◌then◌else◌, None}
+use Rattle.codegen.specs.Bodies.{program_code}
+use Rattle.coati_word.specs.declared.mode.Mode.{Mode}
 use Rattle.task_syntax.specs.declared.program.Program.{Program}
-use Rattle.coati_board.specs.declared.device.Device.{Device}
-use Rattle.coati_board.specs.FirstForm.{IsFirstForm}
-use Rattle.task_syntax.specs.Names.{tasks, opening_values}
-use Rattle.serial_log.specs.declared.end.End.{End}
 use Rattle.serial_log.specs.declared.mark.Mark.{Mark}
-use Rattle.serial_log.specs.declared.mark.MarkKind.TheVariants as kind
-use Rattle.serial_log.specs.declared.held.Held.{Held}
+use Rattle.serial_log.specs.declared.mark.MarkKind.TheVariants.{Boot, Commit, Done}
+use Rattle.serial_log.specs.declared.posted.Posted.{Posted as Raised}
 use Rattle.serial_log.specs.declared.record.Record.{Record}
-use Rattle.serial_log.specs.History.{Past, HasRecord, readings_in, with_mark}
-use Rattle.serial_log.specs.Marks.{Entry, entries, accepted_postings}
-use Rattle.serial_log.specs.SerialRun.{Stand, behind_entries, opening_stand, AreSerial}
-use Rattle.coati_board.specs.History.{end_of}
-use Rattle.coati_board.specs.Fit.{IsReady}
-use Rattle.coati_board.specs.Act.{IsAct, IsStep}
-use Rattle.coati_board.specs.Act.IsAct.{applies, sleeps, starts, replaces, numbers, values, lengthens, ends, places, commits}
-use Rattle.coati_board.specs.Board.{IsBoard, IsBlankPast, opened}
-use Rattle.coati_board.specs.Sound.{IsSound, IsAttempt}
-use Rattle.coati_board.proofs.Serial.{act_sound}
-use Rattle.serial_log.proofs.Kept.{readings_kept}
-use Rattle.serial_log.proofs.Records.{records_push, record_there}
-use Rattle.coati_board.proofs.Entries.{accepted_push, entries_end}
-use Rattle.coati_board.proofs.Fitting.{act_fits}
-use Rattle.coati_board.proofs.Room.{Grows, act_leaves_room, end_of_end}
-use Rattle.coati_board.proofs.Declared.{opening_count, tasks_count}
+use Rattle.serial_log.specs.declared.script.Script.{Script}
+use Rattle.serial_log.specs.Marks.{raised_by, raised_postings}
+use Rattle.nv_memory.specs.Seats.{Memory}
+use Rattle.word_code.specs.Code.{Bodies}
+use Rattle.coati_device.specs.declared.device.Device.{Device}
+use Rattle.coati_device.specs.Laws.{AreRecordsGrown, HasStepped, StepsKeepSound}
+use Rattle.coati_device.specs.Points.{HasRoomFor}
+use Rattle.coati_device.specs.declared.device.Phase.{Phase}
+use Rattle.coati_device.specs.declared.device.Phase.TheVariants.{Run}
+use Rattle.coati_device.specs.Cursors.{AreCursors}
+use Rattle.coati_device.specs.Kept.{Kept, after_turn, emptied}
+use Rattle.coati_device.specs.Rows.{IsRow, IsStepOf, phase_after, phase_of_bottom}
+use Rattle.coati_device.specs.Rows.IsRow.{applies, undoes, sleeps, empties, starts, runs, prepares, joins, commits, empties_entry, starts_bottom, runs_bottom, prepares_event, commits_event}
+use Rattle.coati_device.specs.Ticks.{cut, passed, ticked}
+use Rattle.coati_device.proofs.CursorMoves.{cursors_stay}
+use Rattle.coati_board.specs.Board.{IsBoard, end_of, end_of_kind, terms_of}
 
--- a board with steps left can make one
-pub ready : (p : Program) (limit : ℕ) (d : Device) → IsBoard p limit d → d.clock < limit → end_of d.history.marks ≡ None → IsReady p d
-ready p limit d b l open_ =
-    let r = b.room open_ in record {
-      fit = b.fit;
-      room = record { mark = omega (arith, r.marks); attempt = omega (arith, r.attempt); records = omega (arith, r.records); few = omega (arith, r.few); time = omega (arith, b.limited) };
-    }
+-- marks that end no run and raise no posting
+record TellsNothing (more marks : List Mark) : Type 0 where
+  ends : end_of more ≡ end_of marks
+  raised : raised_postings more ≡ raised_postings marks
 
--- an act leaves the clock
-act_clock : (p : Program) (old new : Device) → IsAct p old new → new.clock ≡ old.clock
-act_clock p old new (applies two w n e) = ap (λ (d : Device). d.clock) e
-act_clock p old new (sleeps idle e) = ap (λ (d : Device). d.clock) e
-act_clock p old new (starts task choosing e) = ap (λ (d : Device). d.clock) e
-act_clock p old new (replaces at word k value r a l there e) = ap (λ (d : Device). d.clock) e
-act_clock p old new (numbers at word value r a none e) = ap (λ (d : Device). d.clock) e
-act_clock p old new (values at value is clear e) = ap (λ (d : Device). d.clock) e
-act_clock p old new (lengthens at is clear e) = ap (λ (d : Device). d.clock) e
-act_clock p old new (ends at r last e) = ap (λ (d : Device). d.clock) e
-act_clock p old new (places to is clear other e) = ap (λ (d : Device). d.clock) e
-act_clock p old new (commits to is clear same e) = ap (λ (d : Device). d.clock) e
+tells_behind : (first : Mark) (more marks : List Mark) → TellsNothing more marks → TellsNothing (first ∷ more) (first ∷ marks)
+tells_behind first more marks told = record {
+  ends = ap (end_of_kind first.kind) told.ends;
+  raised = ap (λ (all : List Raised). raised_by first.kind ++ all) told.raised;
+}
 
--- what a step leaves
-pub record Stepped (p : Program) (limit : ℕ) (old new : Device) : Type 0 where
-  pub board : IsBoard p limit new
-  pub clock : new.clock ≡ old.clock + 1
-  pub grows : Grows old.history new.history
+commit_tells : (marks : List Mark) (at : ℕ) (committed : Record) →
+    TellsNothing (marks ++ record { at = at; kind = Commit committed } ∷ []) marks
+commit_tells [] at committed = record { ends = refl; raised = refl }
+commit_tells (mark ∷ marks) at committed = tells_behind mark _ marks (commit_tells marks at committed)
 
--- what old records have read stays theirs
-pub old_readings : (p : Program) (d : Device) (new : Past) (r : Record) → IsSound p d → Grows d.history new → HasRecord d.history r → readings_in new.readings r ≡ readings_in d.history.readings r
-old_readings p d new r s g has =
-    ap (λ rs. readings_in rs r) (sym g.readings.1) ∙ readings_kept d.history.readings g.readings.0 r (record_there d.history.marks (length d.history.readings) r has s.records)
+done_tells : (marks : List Mark) (at task : ℕ) → TellsNothing (marks ++ record { at = at; kind = Done task } ∷ []) marks
+done_tells [] at task = record { ends = refl; raised = refl }
+done_tells (mark ∷ marks) at task = tells_behind mark _ marks (done_tells marks at task)
 
-pub step_keeps : (p : Program) (limit : ℕ) (old new : Device) → IsBoard p limit old → old.clock < limit → end_of old.history.marks ≡ None → IsStep p old new → Stepped p limit old new
-step_keeps p limit old new b l open_ s =
-    let mid = s.acted in
-    let fits = act_fits p old b.form b.fit mid s.act in
-    let rooms = act_leaves_room p old (limit - old.clock) b.form b.fit (omega arith) (b.room open_) mid s.act in
-    let sound = act_sound p old b.form b.fit b.sound mid s.act in
-    let clock : mid.clock ≡ old.clock = act_clock p old mid s.act in
-    rw s.tick (record {
-      board = record {
-        form = b.form;
-        limited = b.limited;
-        time = omega arith;
-        fit = record { range = fits.range; phase = fits.phase; done = omega (arith, fits.done) };
-        sound = record { records = sound.records; serial = sound.serial; stands = sound.stands; attempt = sound.attempt };
-        room = λ _. let same : limit - old.clock - 1 ≡ limit - (mid.clock + 1) = omega arith in
-            record { marks = omega (arith, rooms.0.marks); attempt = omega (arith, rooms.0.attempt); records = omega (arith, rooms.0.records); few = omega (arith, rooms.0.few) };
-      };
-      clock = omega arith;
-      grows = rooms.1;
+boot_tells : (marks : List Mark) (at number : ℕ) → TellsNothing (marks ++ record { at = at; kind = Boot number } ∷ []) marks
+boot_tells [] at number = record { ends = refl; raised = refl }
+boot_tells (mark ∷ marks) at number = tells_behind mark _ marks (boot_tells marks at number)
+
+-- what a step leaves beside: it ends no run, raises no posting, and finishes one more task at most
+record LeavesBeside (old new : Device) : Type 0 where
+  told : TellsNothing new.history.marks old.history.marks
+  cursors : new.cursors ≡ old.cursors
+  accepted : new.accepted ≡ old.accepted
+  finished : new.finished ≤ old.finished + 1
+
+tells_none : (marks : List Mark) → TellsNothing marks marks
+tells_none marks = record { ends = refl; raised = refl }
+
+module _ (old : Device) where
+  without_mark : (image : Memory) (phase : Phase) (attempt : Kept) →
+      LeavesBeside old (record old { image = image; phase = phase; attempt = attempt })
+  without_mark image phase attempt =
+      record { told = tells_none old.history.marks; cursors = refl; accepted = refl; finished = omega arith }
+
+  row_leaves : (program : Program) (code : Bodies) (new : Device) → IsRow program code old new → LeavesBeside old new
+  row_leaves program code new (applies change image next written is) = rw is (without_mark image old.phase old.attempt)
+  row_leaves program code new (undoes change image clear next written is) = rw is (without_mark image old.phase old.attempt)
+  row_leaves program code new (sleeps chooses halted is) = rw is (without_mark old.image old.phase old.attempt)
+  row_leaves program code new (empties image chooses some long written is) = rw is (without_mark image old.phase old.attempt)
+  row_leaves program code new (starts cpu chooses some empty start is) =
+      rw is (without_mark old.image (Run cpu) (emptied old.attempt))
+  row_leaves program code new (runs before after image turn phase body clear step is) =
+      rw is (without_mark image (phase_after after turn) (after_turn old.attempt turn))
+  row_leaves program code new (prepares place image ends other written is) = rw is (without_mark image old.phase old.attempt)
+  row_leaves program code new (joins place image ends ready inside written is) =
+      rw is (record { told = done_tells old.history.marks _ _; cursors = refl; accepted = refl; finished = omega arith })
+  row_leaves program code new (commits place image ends ready whole written is) =
+      rw is (record { told = commit_tells old.history.marks _ _; cursors = refl; accepted = refl; finished = omega arith })
+  row_leaves program code new (empties_entry image chooses some written is) = rw is (without_mark image old.phase old.attempt)
+  row_leaves program code new (starts_bottom cpu chooses empty start is) =
+      rw is (without_mark old.image (Run cpu) (emptied old.attempt))
+  row_leaves program code new (runs_bottom before after image turn phase body clear events step is) =
+      rw is (without_mark image (phase_of_bottom after turn) (after_turn old.attempt turn))
+  row_leaves program code new (prepares_event image ends other written is) = rw is (without_mark image old.phase old.attempt)
+  row_leaves program code new (commits_event image ends ready written is) =
+      rw is (record { told = commit_tells old.history.marks _ _; cursors = refl; accepted = refl; finished = omega arith })
+
+time_leaves : (periods : List ℕ) (d : Device) (is_over : Bool) → LeavesBeside d (if is_over then cut periods d else passed d)
+time_leaves periods d true =
+    record { told = boot_tells d.history.marks _ _; cursors = refl; accepted = refl; finished = omega arith }
+time_leaves periods d false =
+    record { told = tells_none d.history.marks; cursors = refl; accepted = refl; finished = omega arith }
+
+time_finishes_none : (periods : List ℕ) (d : Device) (is_over : Bool) →
+    (if is_over then cut periods d else passed d).finished ≡ d.finished
+time_finishes_none periods d true = refl
+time_finishes_none periods d false = refl
+
+step_leaves : (program : Program) (code : Bodies) (periods : List ℕ) (old new : Device) →
+    IsStepOf program code periods old new → LeavesBeside old new
+step_leaves program code periods old new step =
+    let row = row_leaves old program code step.acted step.row in
+    let counted = record step.acted { steps = step.acted.steps + 1 } in
+    let time = time_leaves periods counted (step.acted.until == 1) in
+    let finished : (ticked periods counted).finished ≡ step.acted.finished =
+    time_finishes_none periods counted (step.acted.until == 1) in
+    let most = row.finished in
+    rw step.time (record {
+      told = record { ends = time.told.ends ∙ row.told.ends; raised = time.told.raised ∙ row.told.raised };
+      cursors = time.cursors ∙ row.cursors;
+      accepted = time.accepted ∙ row.accepted;
+      finished = omega (arith, finished, most);
     })
 
--- an empty history
-abbrev blank_past : ℕ → ℕ → Past
-blank_past marks readings = record { marks = []; mark_room = marks; readings = []; reading_room = readings }
+-- what a board has after a step
+pub record Steps (program : Program) (mode : Mode) (script : Script)
+    (old new : Device) : Type 0 where
+  pub board : IsBoard program mode script new
+  pub open_still : end_of new.history.marks ≡ None
+  pub grows : AreRecordsGrown old new
 
--- a board that is opened stands for the opening
-opened_sound : (p : Program) (limit marks readings : ℕ) → IsSound p (opened p limit (blank_past marks readings))
-opened_sound p limit marks readings = record { records = tt; serial = tt; stands = record { store = refl; place = refl }; attempt = λ _. refl }
-
-abbrev end_mark : ℕ → End → Mark
-end_mark at e = record { at = at; kind = kind.End e }
-
--- an End mark changes nothing of what memory stands for
-ended_sound : (p : Program) (d : Device) (at : ℕ) (e : End) → IsSound p d → IsSound p (record d { history = with_mark d.history (end_mark at e) })
-ended_sound p d at e s =
-    let es = entries_end d.history.marks at e d.history.readings in
-    let none_more : accepted_postings (d.history.marks ++ end_mark at e ∷ []) ≡ accepted_postings d.history.marks = accepted_push d.history.marks (end_mark at e) refl in
-    let now = entries (d.history.marks ++ end_mark at e ∷ []) d.history.readings in
-    let run : List Held → List Entry → Stand = λ postings xs. behind_entries p postings (opening_stand p) xs in
-    let same : run (accepted_postings (d.history.marks ++ end_mark at e ∷ [])) now ≡ run (accepted_postings d.history.marks) (entries d.history.marks d.history.readings) =
-    ap (λ (postings : List Held). run postings now) none_more ∙ ap (λ (xs : List Entry). run (accepted_postings d.history.marks) xs) es in
-    record {
-      records = records_push d.history.marks (end_mark at e) (length d.history.readings) s.records tt;
-      serial = subst (λ (postings : List Held). AreSerial p postings (opening_stand p) now) (sym none_more)
-          (subst (λ (xs : List Entry). AreSerial p (accepted_postings d.history.marks) (opening_stand p) xs) (sym es) s.serial);
-      stands = record { store = s.stands.store ∙ ap (λ (x : Stand). x.store) (sym same); place = s.stands.place ∙ ap (λ (x : Stand). x.place) (sym same) };
-      attempt = subst (λ (x : Stand). IsAttempt p d.memory x.store d.attempt.items d.phase) (sym same) s.attempt;
-    }
-
--- a board that is opened
-opened_with : (p : Program) (limit marks readings : ℕ) → IsFirstForm p → limit ≤ 500000 → limit + 1 ≤ marks → 2 * limit ≤ readings → IsBoard p limit (opened p limit (blank_past marks readings))
-opened_with p limit marks readings form l some_marks some_readings =
-    let n : length (opening_values p) ≡ length p.vars = opening_count p form in
-    let some : 0 < length (tasks p) = omega (arith, tasks_count p form, form.some_units) in
-    record {
-      form = form;
-      limited = l;
-      time = omega arith;
-      fit = record {
-        range = record {
-          mark = inl refl;
-          current = inl some;
-          next = inl some;
-          variables = n;
-          log_words = length-replicate (length (opening_values p)) 0 ∙ n;
-          log_values = length-replicate (length (opening_values p)) 0 ∙ n;
-          few = form.few_variables;
-          short = omega arith;
-          below = λ at h. absurd (omega arith);
-          once = λ i k h g. absurd (omega arith);
+module _ (program : Program) (mode : Mode) (script : Script) (old new : Device)
+    (board : IsBoard program mode script old)
+    (spare : 0 < old.spare) (limit : old.steps < script.limit)
+    (open_ : end_of old.history.marks ≡ None) where
+  stepped : HasStepped (terms_of program mode) script.power (old.spare - 1) old new →
+      LeavesBeside old new → Steps program mode script old new
+  stepped has leaves =
+      let clock = has.clock in
+      let steps = has.steps in
+      let left = has.spare in
+      let had = board.steps in
+      let finished = board.finished in
+      let one_more = leaves.finished in
+      let accepted = leaves.accepted in
+      let counted = board.counted in
+      let time = board.time in
+      let few = has.room.few in record {
+        board = record {
+          accepted = board.accepted;
+          sizes = board.sizes;
+          served = board.served;
+          scripted = board.scripted;
+          sound = has.sound;
+          cursors =
+              subst (AreCursors script.postings new.history.marks) (sym leaves.cursors)
+              (cursors_stay script.postings old.history.marks new.history.marks old.cursors
+              leaves.told.raised board.cursors);
+          steps = omega arith;
+          counted = omega (arith, accepted, counted, clock);
+          finished = omega arith;
+          limit = omega arith;
+          time = omega arith;
+          few = omega arith;
+          room = λ still. subst (λ (n : ℕ). HasRoomFor n script.power new) (sym left) has.room;
         };
-        phase = tt;
-        done = omega arith;
-      };
-      sound = opened_sound p limit marks readings;
-      room = λ _. record { marks = omega arith; attempt = omega arith; records = omega arith; few = omega arith };
-    }
+        open_still = leaves.told.ends ∙ open_;
+        grows = has.grows;
+      }
 
-pub opened_board : (p : Program) (limit : ℕ) (past : Past) → IsFirstForm p → limit ≤ 500000 → IsBlankPast limit past → IsBoard p limit (opened p limit past)
-opened_board p limit past form l blank =
-    let same : past ≡ blank_past past.mark_room past.reading_room =
-    ap (λ (ms : List Mark). let h : Past = record past { marks = ms } in h) blank.marks
-    ∙ ap (λ (rs : List Reading). let h : Past = record past { marks = []; readings = rs } in h) blank.readings in
-    subst (λ (h : Past). IsBoard p limit (opened p limit h)) (sym same) (opened_with p limit past.mark_room past.reading_room form l blank.mark_room blank.reading_room)
-
--- a board that is closed
-pub closed_board : (p : Program) (limit : ℕ) (d : Device) (at : ℕ) (e : End) (h : Past) → IsBoard p limit d → end_of d.history.marks ≡ None → h ≡ with_mark d.history (end_mark at e) → IsBoard p limit (record d { history = h })
-closed_board p limit d at e h b none is = rw is (record {
-  form = b.form;
-  limited = b.limited;
-  time = b.time;
-  fit = record { range = b.fit.range; phase = b.fit.phase; done = b.fit.done };
-  sound = ended_sound p d at e b.sound;
-  room = λ open_. let some : end_of (with_mark d.history (end_mark at e)).marks ≡ Some e = end_of_end d.history.marks at e none in absurd (cc);
-})
+  -- it is sound, and has no End mark yet
+  pub step_keeps : StepsKeepSound → IsStepOf program (program_code program) script.power old new →
+      Steps program mode script old new
+  step_keeps law step =
+      let enough : suc (old.spare - 1) ≡ old.spare = omega arith in
+      stepped
+      (law (terms_of program mode) script.power (old.spare - 1) old new board.scripted.periods
+      board.accepted board.sound
+      (subst (λ (n : ℕ). HasRoomFor n script.power old) (sym enough) (board.room open_)) step)
+      (step_leaves program (program_code program) script.power old new step)

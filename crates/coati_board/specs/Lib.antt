@@ -1,10 +1,7 @@
-pub mod FirstForm
-pub mod Memory
-pub mod StandsFor
-pub mod History
-pub mod Tasks
-pub mod Fit
-pub mod Act
-pub mod Sound
+pub mod Served
+pub mod Ready
+pub mod Written
+pub mod Cursors
+pub mod Handlers
+pub mod Raising
 pub mod Board
-pub mod Example

@@ -1,15 +1,18 @@
-//! The board: a device that runs the tasks of a program and commits each as a whole.
+//! The board: a device that runs the tasks of a program over nonvolatile memory, one word a step,
+//! and commits each as a whole, whenever its power is cut.
 #![tactic(auto)]
 
 mod board;
+mod bottom_rows;
+mod bottom_view;
 mod commit;
-mod device;
-mod expression;
-mod memory;
-mod names;
-mod readings;
-mod steps;
-mod task_log;
+mod cursors;
+mod handler;
+mod raise;
+mod rows;
+mod step;
+mod task_view;
+mod tick;
+mod writes;
 
 pub use board::Board;
-pub use device::{Device, Phase};

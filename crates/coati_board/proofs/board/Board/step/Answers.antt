@@ -1,30 +1,54 @@
-use Rattle.std.proofs.Common.{◌≡◌, ◌<◌, ap, ◌∙◌, sym, subst, None, arith}
-use Rattle.serial_log.specs.History.{Past, HasRecord, readings_in}
-use Rattle.coati_board.specs.History.{end_of}
-use Rattle.coati_board.specs.Board.{Whole}
-use Rattle.coati_board.proofs.Stepping.{Stepped, step_keeps, old_readings}
+use Rattle.std.proofs.Common.{◌≡◌, ◌<◌, ◌∙◌, ap, sym, subst, None}
+use Rattle.std.specs.Prelude.{List, ℕ}
+use mathlib.Core.List.{IsPrefix}
+use Rattle.word_code.specs.Code.{Bodies}
+use Rattle.serial_log.specs.History.{HasRecord, readings_in}
+use Rattle.coati_device.specs.declared.device.Device.{Device}
+use Rattle.coati_device.specs.Rows.{IsStepOf}
+use Rattle.coati_board.specs.Board.{Whole, end_of}
+use Rattle.coati_board.proofs.Stepping.{Steps, step_keeps}
 use Rattle.coati_board.proofs.board.Board.step.Goals as goal
 use Rattle.coati_board.proofs.board.Board.step.Goals.{After-advance}
 
+device_is : (c : After-advance) → c.self.inside.device ≡ c.args.self.now.device
+device_is c = ap (λ (w : Whole). w.device) c.self.view_is
+
 -- the fields are those of a board that can make a step, and then of one that has made it
-stepped : (c : After-advance) → Stepped c.self.inside.checked c.self.inside.limit c.self.inside.device c.advance.new.device
+stepped : (c : After-advance) → Steps c.self.inside.checked c.self.inside.mode c.self.inside.script
+    c.self.inside.device c.advance.new.device
 stepped c =
-    let d = c.self.inside.device in
-    let open_ : end_of d.history.marks ≡ None = ap (λ (w : Whole). end_of w.device.history.marks) c.self.view_is ∙ c.requires.open in
-    let some : d.clock < c.self.inside.limit = omega (arith, ap (λ (w : Whole). w.device.clock) c.self.view_is, ap (λ (w : Whole). w.limit) c.self.view_is, c.requires.steps) in
-    step_keeps c.self.inside.checked c.self.inside.limit d c.advance.new.device c.self.invariant some open_ (rw c.program.ensures.program at c.advance.ensures)
+    let inside = c.self.inside in
+    let spare : 0 < inside.device.spare = subst (λ (d : Device). 0 < d.spare) (sym (device_is c))
+    c.requires.spare in
+    let limit : inside.device.steps < inside.script.limit =
+    subst (λ (w : Whole). w.device.steps < w.script.limit) (sym c.self.view_is) c.requires.limit in
+    let open_ : end_of inside.device.history.marks ≡ None =
+    ap (λ (d : Device). end_of d.history.marks) (device_is c) ∙ c.requires.open in
+    step_keeps inside.checked inside.mode inside.script inside.device c.advance.new.device
+    c.self.invariant.1 spare limit open_ c.steps_keep_devices.ensures
+    (subst (λ (code : Bodies). IsStepOf inside.checked code inside.script.power inside.device
+    c.advance.new.device) c.self.invariant.0
+    (subst (λ (periods : List ℕ). IsStepOf inside.checked inside.code periods inside.device
+    c.advance.new.device) c.as_slice.ensures c.advance.ensures))
 
 pub invariant_of-self : goal.invariant_of-self
-invariant_of-self c = (stepped (goal.at.invariant_of-self c).After-advance).board
+invariant_of-self c =
+    (c.self.invariant.0, (stepped (goal.at.invariant_of-self c).After-advance).board)
 
 pub returns-clause-open : goal.returns-clause-open
-returns-clause-open c =
-    (stepped (goal.at.returns-clause-open c).After-advance).grows.end ∙ ap (λ (w : Whole). end_of w.device.history.marks) c.self.view_is ∙ c.requires.open
+returns-clause-open c = (stepped (goal.at.returns-clause-open c).After-advance).open_still
+
+pub returns-clause-grows : goal.returns-clause-grows
+returns-clause-grows c =
+    let c = (goal.at.returns-clause-grows c).After-advance in
+    subst (λ (d : Device). IsPrefix d.history.marks c.advance.new.device.history.marks)
+    (device_is c) (stepped c).grows.marks
 
 pub returns-clause-kept : goal.returns-clause-kept
-returns-clause-kept c r has =
-    let was = c.self.inside.device.history in
-    let same : was ≡ c.args.self.now.device.history = ap (λ (w : Whole). w.device.history) c.self.view_is in
-    subst (λ (h : Past). readings_in c.advance.new.device.history.readings r ≡ readings_in h.readings r) same
-    (old_readings c.self.inside.checked c.self.inside.device c.advance.new.device.history r c.self.invariant.sound (stepped (goal.at.returns-clause-kept c).After-advance).grows
-    (subst (λ (h : Past). HasRecord h r) (sym same) has))
+returns-clause-kept c committed has =
+    let c = (goal.at.returns-clause-kept c).After-advance in
+    let same = device_is c in
+    subst (λ (d : Device). readings_in c.advance.new.device.history.readings committed ≡ readings_in
+    d.history.readings committed) same
+    ((stepped c).grows.kept committed
+    (subst (λ (d : Device). HasRecord d.history committed) (sym same) has))

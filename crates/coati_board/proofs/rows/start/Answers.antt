@@ -1,0 +1,12 @@
+use Rattle.std.proofs.Common.{subst}
+use Rattle.std.specs.Prelude.{ℕ, []}
+use Rattle.task_syntax.specs.declared.body.BodyId.TheVariants.{Task}
+use Rattle.word_cpu.specs.UnderWay.{IsAtStart}
+use Rattle.coati_device.specs.Rows.IsRow.{starts}
+use Rattle.coati_board.proofs.rows.start.Goals as goal
+
+pub returns : goal.returns
+returns c program =
+    starts c.start.result c.requires.chooses (λ e. c.requires.some (cc)) c.requires.empty
+    (subst (λ (task : ℕ). IsAtStart (Task task) [] c.start.result) c.requires.task c.start.ensures)
+    (cc)

@@ -1,0 +1,267 @@
+//! The rows of the executor's table: each is one machine step, and writes one word of memory at
+//! most.
+
+ghost use Rattle.std.specs.Prelude.{◌≡◌, ◌≢◌, ◌+◌, ◌^◌, ◌<◌, ◌≤◌, true, false};
+ghost use Rattle.codegen.specs.Bodies.{program_code};
+ghost use Rattle.nv_memory.specs.InRange.{InRange};
+ghost use Rattle.nv_memory.specs.Logs.{log_length};
+ghost use Rattle.nv_memory.specs.State.{state};
+ghost use Rattle.nv_memory.specs.Words.{current, doomed, mark, next};
+ghost use Rattle.nv_memory.specs.declared.log.Log.TheVariants as log;
+ghost use Rattle.task_syntax.specs.declared.body.BodyId.TheVariants as body;
+ghost use Rattle.task_syntax.specs.declared.program.Program.{Program};
+ghost use Rattle.task_syntax.specs.Units.{halt, is_inside, place_after, transaction_of};
+ghost use Rattle.word_code.specs.Code.{Bodies, HasBody};
+ghost use Rattle.coati_device.specs.Kept.{unit_of};
+ghost use Rattle.coati_device.specs.Laws.{Rows};
+ghost use Rattle.coati_device.specs.Rows.{Chooses, Ends, IsClear, IsRow};
+ghost use Rattle.coati_board.specs.Ready.{CanAct, HasRoomToEnd, Runs, RunsTheTask};
+
+use crate::bottom_rows::{choose_event, end_bottom_half, run_bottom_half};
+use crate::commit::commit;
+use crate::task_view::TaskView;
+use crate::writes::put;
+use bottom_half::pick;
+use buffi_sets::abort_write;
+use coati_device::laws::rows_keep_fit;
+use coati_device::{Device, Phase};
+use coati_word::Ending;
+use coati_word::limits::HALT;
+use codegen::laws::bodies_stand_by_number;
+use commit_log::{Marker, mark_write, next_write, prepare_write};
+use nv_memory::Log;
+use reboot::after_cut;
+use serial_log::{Mark, MarkKind, Unit};
+use task_buffer::reset_write;
+use task_check::Checked;
+use task_syntax::BodyId;
+use word_code::Code;
+use word_cpu::{Cpu, Turn};
+
+/// The first row that applies.
+pub fn act(checked: &Checked, code: &Code, device: &mut Device)
+    requires code { code.now ≡ program_code checked.now }
+    requires ready { CanAct checked.now device.old }
+    ensures { Rows checked.now device.old device.new }
+{
+    match after_cut(&device.image) {
+        reboot::Phase::Apply => apply(device),
+        reboot::Phase::Undo => undo(device),
+        reboot::Phase::Choose => go_on(checked, code, device),
+    }
+}
+
+// Neither a commit nor an undo is under way.
+fn go_on(checked: &Checked, code: &Code, device: &mut Device)
+    requires code { code.now ≡ program_code checked.now }
+    requires ready { CanAct checked.now device.old }
+    requires clear { IsClear (state device.old.image) }
+    ensures { Rows checked.now device.old device.new }
+{
+    rows_keep_fit();
+    match device.phase {
+        Phase::Choose => choose(checked, code, device),
+        Phase::Run(_) => run(code, device),
+        Phase::End(place) => end(checked, device, place),
+        Phase::EndBottom => end_bottom_half(device),
+    }
+}
+
+// The next write of the commit under way.
+fn apply(device: &mut Device)
+    requires range { InRange (state device.old.image) }
+    requires under_way { mark (state device.old.image) ≢ 0 }
+    ensures { (program : Program) (code : Bodies) → IsRow program code device.old device.new }
+{
+    if let Some(write) = next_write(&device.image) {
+        put(&mut device.image, write);
+    }
+}
+
+// The next write of the undo under way.
+fn undo(device: &mut Device)
+    requires range { InRange (state device.old.image) }
+    requires no_commit { mark (state device.old.image) ≡ 0 }
+    requires under_way { doomed (state device.old.image) ≡ 1 }
+    ensures { (program : Program) (code : Bodies) → IsRow program code device.old device.new }
+{
+    if let Some(write) = abort_write(&device.image) {
+        put(&mut device.image, write);
+    }
+}
+
+// What comes next: the oldest held posting where no transaction is open, and else the task to run.
+fn choose(checked: &Checked, code: &Code, device: &mut Device)
+    requires code { code.now ≡ program_code checked.now }
+    requires ready { CanAct checked.now device.old }
+    requires clear { IsClear (state device.old.image) }
+    requires chooses { device.old.phase ≡ Phase.Choose }
+    ensures { Rows checked.now device.old device.new }
+{
+    bodies_stand_by_number();
+    match pick(&device.image) {
+        Some(job) => choose_event(checked, code, device, job),
+        None => choose_task(code, device),
+    }
+}
+
+// The task to run starts, once the log that an attempt before has left is empty. Behind the last
+// task nothing is to do.
+fn choose_task(code: &Code, device: &mut Device)
+    requires chooses { Chooses device.old }
+    requires task { current (state device.old.image) ≢ halt
+        → HasBody code.now (body.Task (current (state device.old.image))) }
+    ensures { (program : Program) → IsRow program code.now device.old device.new }
+{
+    let task = device.image.current();
+    if task == HALT {
+        return;
+    }
+    match reset_write(&device.image, Log::Task) {
+        Some(write) => put(&mut device.image, write),
+        None => start(code, device, task),
+    }
+}
+
+// The task starts with an empty attempt.
+fn start(code: &Code, device: &mut Device, task: u16)
+    requires chooses { Chooses device.old }
+    requires task { task ≡ current (state device.old.image) }
+    requires some { task ≢ halt }
+    requires body { HasBody code.now (body.Task task) }
+    requires empty { log_length (state device.old.image) log.Task ≡ 0 }
+    ensures { (program : Program) → IsRow program code.now device.old device.new }
+{
+    device.attempt.clear();
+    device.phase = Phase::Run(Cpu::start(code, BodyId::Task(task), &[]));
+}
+
+// One step of the machine.
+fn run(code: &Code, device: &mut Device)
+    requires range { InRange (state device.old.image) }
+    requires clear { IsClear (state device.old.image) }
+    requires runs { Runs code.now device.old }
+    requires room { 0 < device.old.attempt.room }
+    ensures { (program : Program) → IsRow program code.now device.old device.new }
+{
+    let Phase::Run(cpu) = &device.phase else {
+        unreachable!()
+    };
+    match cpu.body() {
+        BodyId::Task(_) => run_task(code, device),
+        BodyId::Top(_) => unreachable!(),
+        BodyId::Bottom(_) => run_bottom_half(code, device),
+    }
+}
+
+// One step of the machine in the task to run.
+fn run_task(code: &Code, device: &mut Device)
+    requires range { InRange (state device.old.image) }
+    requires clear { IsClear (state device.old.image) }
+    requires runs { RunsTheTask code.now device.old }
+    requires room { 0 < device.old.attempt.room }
+    ensures { (program : Program) → IsRow program code.now device.old device.new }
+{
+    let Phase::Run(cpu) = &mut device.phase else {
+        unreachable!()
+    };
+    let mut view = TaskView {
+        image: &mut device.image,
+    };
+    match cpu.step(code, &mut view) {
+        Turn::Went(Some(reading)) => device.attempt.push(reading),
+        Turn::Went(None) => {}
+        Turn::Storing => {}
+        Turn::Ended(ending) => device.phase = Phase::End(place_after(ending)),
+    }
+}
+
+// Where an ending leads.
+fn place_after(ending: Ending) -> u16
+    ensures { result ≡ place_after ending }
+{
+    match ending {
+        Ending::Next(task) => task,
+        _ => HALT,
+    }
+}
+
+// The place behind the task is written where it isn't there yet. Then the task is merged into its
+// transaction where that goes on, and else its unit is committed.
+fn end(checked: &Checked, device: &mut Device, place: u16)
+    requires ends { Ends device.old place }
+    requires room { HasRoomToEnd device.old }
+    ensures { (code : Bodies) → IsRow checked.now code device.old device.new }
+{
+    match prepare_write(&device.image, place) {
+        Some(write) => put(&mut device.image, write),
+        None if is_inside(checked, device.image.current(), place) => join(device, place),
+        None => commit_unit(checked, device, place),
+    }
+}
+
+// A task of a transaction is done, and the transaction goes on: what the task read is kept for its
+// record.
+fn join(device: &mut Device, place: u16)
+    requires ends { Ends device.old place }
+    requires prepared { next (state device.old.image) ≡ place }
+    requires room { HasRoomToEnd device.old }
+    ensures { (program : Program) (code : Bodies)
+        → is_inside program (current (state device.old.image)) place ≡ true
+        → IsRow program code device.old device.new }
+{
+    let task = device.image.current();
+    put(&mut device.image, mark_write(Marker::IntoTx));
+    device.history.push(Mark {
+        at: device.clock + 1,
+        kind: MarkKind::Done(task),
+    });
+    device.unit.push_all(device.attempt.as_slice());
+    device.finished += 1;
+    device.attempt.clear();
+    device.phase = Phase::Choose;
+}
+
+// The unit is whole: it is committed, and its record told.
+fn commit_unit(checked: &Checked, device: &mut Device, place: u16)
+    requires ends { Ends device.old place }
+    requires prepared { next (state device.old.image) ≡ place }
+    requires whole { is_inside checked.now (current (state device.old.image)) place ≡ false }
+    requires room { HasRoomToEnd device.old }
+    ensures { (code : Bodies) → IsRow checked.now code device.old device.new }
+{
+    let unit = unit_of(checked, device.image.current());
+    put(&mut device.image, mark_write(Marker::Unit));
+    commit(
+        &mut device.history,
+        unit,
+        device.finished + 1,
+        device.unit.as_slice(),
+        device.attempt.as_slice(),
+        device.clock + 1,
+    );
+    device.unit.clear();
+    device.finished = 0;
+    device.attempt.clear();
+    device.phase = Phase::Choose;
+}
+
+// Whether a place is in the transaction of a task.
+fn is_inside(checked: &Checked, task: u16, place: u16) -> bool
+    ensures { result ≡ is_inside checked.now task place }
+{
+    match checked.tx_of_task(task) {
+        Some(tx) => checked.tx_of_task(place) == Some(tx),
+        None => false,
+    }
+}
+
+// The unit of a task.
+fn unit_of(checked: &Checked, task: u16) -> Unit
+    ensures { result ≡ unit_of (transaction_of checked.now task) task }
+{
+    match checked.tx_of_task(task) {
+        Some(tx) => Unit::Transaction(tx),
+        None => Unit::Task(task),
+    }
+}

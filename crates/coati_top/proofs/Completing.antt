@@ -1,6 +1,6 @@
 -- Why an undisturbed call succeeds on an input that is served, and tells what is wrong with a trace: each other status
 -- has a cause that the input rules out.
-use Rattle.std.proofs.Common.{◌≡◌, ℕ, ◌+◌, ◌≤◌, List, ◌++◌, length, Some, None, refl, sym, ap, ◌∙◌, subst, inl, inr, append-nil, length-append, arith}
+use Rattle.std.proofs.Common.{◌≡◌, ℕ, ◌+◌, ◌≤◌, List, [], ◌++◌, length, Some, None, refl, sym, ap, ◌∙◌, subst, inl, inr, append-nil, length-append, arith}
 use Rattle.std.specs.Prelude.{Option}
 use Rattle.task_lex.specs.Reading.{Tokens, FaultsAt}
 use Rattle.task_lex.specs.declared.fault.LexFault.{LexFault}
@@ -12,7 +12,6 @@ use Rattle.task_parse.specs.Faults.{DeepAt, FaultAt, Spells}
 use Rattle.task_parse.specs.Grammar.{Derives}
 use Rattle.task_parse.specs.Lexeme.{Lexeme}
 use Rattle.coati_board.specs.Board.{Whole}
-use Rattle.coati_board.specs.FirstForm.{IsFirstForm}
 use Rattle.coati_word.specs.declared.mode.Mode.{Mode}
 use Rattle.coati_top.specs.declared.command.Command.{Command}
 use Rattle.coati_top.specs.declared.command.Command.TheVariants.{Check, Dump, Run}
@@ -21,11 +20,9 @@ use Rattle.coati_top.specs.declared.source_fault.SourceFault.TheVariants as sour
 use Rattle.task_check.specs.Accepted.{IsAccepted, IsRefusal}
 use Rattle.task_check.specs.declared.fault.CheckFault.TheVariants as check_fault
 use Rattle.task_check.specs.declared.rule.Rule.{Rule}
-use Rattle.coati_top.specs.declared.refusal.Refusal.{Refusal}
-use Rattle.coati_top.specs.declared.refusal.Refusal.TheVariants.{Source, Later}
 use Rattle.coati_top.specs.declared.status.Status.{Status}
 use Rattle.coati_top.specs.declared.status.Status.TheVariants.{Ok, Usage, ReadFault, WriteFault, TooLarge, Refused, BadTrace, Differs, OutOfMemory}
-use Rattle.coati_top.specs.Answer.{Answers, AsksFor, AsksForLater, HasFaultyTrace, IsRefused, limit_alone, other_form, more}
+use Rattle.coati_top.specs.Answer.{Answers, AsksFor, HasFaultyTrace}
 use Rattle.coati_top.specs.Answer.Answers.{refused, measured, listed, untraced, ran}
 use Rattle.coati_top.specs.Call.{Answered, InputEdge, OutputEdge, Explains, input_limit}
 use Rattle.coati_top.specs.Complete.{Ends, EndsWith, IsUndisturbed, IsServed, LacksTrace}
@@ -89,27 +86,6 @@ module _ (one : HasOneAnswer) (bytes : List ℕ) (program : Program) (has : HasP
   no_fault accepted (source_fault.Rule rule at) cause =
       one.rule cause.program rule at cause.refused (subst IsAccepted (same_program cause.program cause.source) accepted)
 
-  -- an input that asks for a run is not put off
-  no_later : (limit : ℕ) → IsFirstForm program → TraceText program (second_part bytes) (limit_alone limit) → AsksForLater bytes → ⊥
-  no_later limit form trace (other_form other source unlike) =
-      unlike (subst IsFirstForm (same_program other source.source) form)
-  no_later limit form trace (more other script source other_is second some) =
-      let here : TraceText program (second_part bytes) script =
-      subst (λ (p : Program). TraceText p (second_part bytes) script) (sym (same_program other source.source)) second in
-      let same : limit_alone limit ≡ script = one.script program (second_part bytes) (limit_alone limit) script trace here in
-      elim some [
-        | inl power ↦ power (sym (ap (λ (s : Script). s.power) same))
-        | inr postings ↦ postings (sym (ap (λ (s : Script). s.postings) same))
-      ]
-
-  -- an input without a trace is not put off either
-  no_later_untraced : (fault : TraceFault) → IsFirstForm program → FirstFault program (second_part bytes) fault → AsksForLater bytes → ⊥
-  no_later_untraced fault form first (other_form other source unlike) =
-      unlike (subst IsFirstForm (same_program other source.source) form)
-  no_later_untraced fault form first (more other script source other_is second some) =
-      one.traced program (second_part bytes) script fault
-      (subst (λ (p : Program). TraceText p (second_part bytes) script) (sym (same_program other source.source)) second) first
-
   -- a trace has no fault
   no_faulty : (script : Script) → TraceText program (second_part bytes) script → (fault : TraceFault) → HasFaultyTrace bytes fault → ⊥
   no_faulty script trace fault faulty =
@@ -117,15 +93,11 @@ module _ (one : HasOneAnswer) (bytes : List ℕ) (program : Program) (has : HasP
       (subst (λ (p : Program). FirstFault p (second_part bytes) fault) (sym (same_program faulty.program faulty.source.source)) faulty.first)
 
 -- what is served is not refused
-no_refusal : HasOneAnswer → (command : Command) (bytes : List ℕ) → IsServed command bytes → (refusal : Refusal) → IsRefused command bytes refusal → ⊥
-no_refusal one Check bytes served (Source fault) cause = no_fault one bytes served.program served.source.source served.source.accepted fault cause
-no_refusal one Check bytes served Later cause = cause
-no_refusal one Dump bytes served (Source fault) cause = no_fault one bytes served.program served.source.source served.source.accepted fault cause
-no_refusal one Dump bytes served Later cause = cause
-no_refusal one (Run mode) bytes served (Source fault) cause =
+no_refusal : HasOneAnswer → (command : Command) (bytes : List ℕ) → IsServed command bytes → (fault : SourceFault) → IsSourceFault bytes fault → ⊥
+no_refusal one Check bytes served fault cause = no_fault one bytes served.program served.source.source served.source.accepted fault cause
+no_refusal one Dump bytes served fault cause = no_fault one bytes served.program served.source.source served.source.accepted fault cause
+no_refusal one (Run mode) bytes served fault cause =
     no_fault one bytes served.program served.asked.source.source served.asked.source.accepted fault cause
-no_refusal one (Run mode) bytes served Later cause =
-    no_later one bytes served.program served.asked.source.source served.limit served.asked.form served.asked.trace cause
 
 -- nor does its trace have a fault
 no_fault_of_trace : HasOneAnswer → (command : Command) (bytes : List ℕ) → IsServed command bytes → (mode : Mode) → command ≡ Run mode
@@ -133,12 +105,12 @@ no_fault_of_trace : HasOneAnswer → (command : Command) (bytes : List ℕ) → 
 no_fault_of_trace one Check bytes served mode is fault faulty = cc
 no_fault_of_trace one Dump bytes served mode is fault faulty = cc
 no_fault_of_trace one (Run other) bytes served mode is fault faulty =
-    no_faulty one bytes served.program served.asked.source.source (limit_alone served.limit) served.asked.trace fault faulty
+    no_faulty one bytes served.program served.asked.source.source served.script served.asked.trace fault faulty
 
 -- the only status of what is served is Ok
 served_answer : HasOneAnswer → (command : Command) (bytes : List ℕ) → IsServed command bytes
     → (status : Status) (text : List ℕ) (board : Option Whole) → Answers command bytes status text board → status ≡ Ok
-served_answer one command bytes served status text board (refused refusal cause is text_is none) = absurd (no_refusal one command bytes served refusal cause)
+served_answer one command bytes served status text board (refused fault cause is text_is none) = absurd (no_refusal one command bytes served fault cause)
 served_answer one command bytes served status text board (measured program by source is text_is none) = is
 served_answer one command bytes served status text board (listed program by source is text_is none) = is
 served_answer one command bytes served status text board (untraced mode fault by faulty is text_is none) =
@@ -146,31 +118,29 @@ served_answer one command bytes served status text board (untraced mode fault by
 served_answer one command bytes served status text board (ran mode run by made is text_is some) = is
 
 -- an input without a trace is refused for no other reason, and not run
-untraced_refusal : HasOneAnswer → (command : Command) (bytes : List ℕ) → LacksTrace command bytes → (refusal : Refusal) → IsRefused command bytes refusal → ⊥
-untraced_refusal one Check bytes lacks refusal cause = lacks
-untraced_refusal one Dump bytes lacks refusal cause = lacks
-untraced_refusal one (Run mode) bytes lacks (Source fault) cause =
+untraced_refusal : HasOneAnswer → (command : Command) (bytes : List ℕ) → LacksTrace command bytes → (fault : SourceFault) → IsSourceFault bytes fault → ⊥
+untraced_refusal one Check bytes lacks fault cause = lacks
+untraced_refusal one Dump bytes lacks fault cause = lacks
+untraced_refusal one (Run mode) bytes lacks fault cause =
     no_fault one bytes lacks.faulty.program lacks.faulty.source.source lacks.faulty.source.accepted fault cause
-untraced_refusal one (Run mode) bytes lacks Later cause =
-    no_later_untraced one bytes lacks.faulty.program lacks.faulty.source.source lacks.fault lacks.faulty.form lacks.faulty.first cause
 
-untraced_run : HasOneAnswer → (command : Command) (bytes : List ℕ) → LacksTrace command bytes → (program : Program) (limit : ℕ) → AsksFor bytes program limit → ⊥
-untraced_run one Check bytes lacks program limit asked = lacks
-untraced_run one Dump bytes lacks program limit asked = lacks
-untraced_run one (Run mode) bytes lacks program limit asked =
-    no_faulty one bytes program asked.source.source (limit_alone limit) asked.trace lacks.fault lacks.faulty
+untraced_run : HasOneAnswer → (command : Command) (bytes : List ℕ) → LacksTrace command bytes → (program : Program) (script : Script) → AsksFor bytes program script → ⊥
+untraced_run one Check bytes lacks program script asked = lacks
+untraced_run one Dump bytes lacks program script asked = lacks
+untraced_run one (Run mode) bytes lacks program script asked =
+    no_faulty one bytes program asked.source.source script asked.trace lacks.fault lacks.faulty
 
 -- its only status is BadTrace
 untraced_answer : HasOneAnswer → (command : Command) (bytes : List ℕ) → LacksTrace command bytes
     → (status : Status) (text : List ℕ) (board : Option Whole) → Answers command bytes status text board → status ≡ BadTrace
-untraced_answer one command bytes lacks status text board (refused refusal cause is text_is none) = absurd (untraced_refusal one command bytes lacks refusal cause)
+untraced_answer one command bytes lacks status text board (refused fault cause is text_is none) = absurd (untraced_refusal one command bytes lacks fault cause)
 untraced_answer one command bytes lacks status text board (measured program by source is text_is none) =
     absurd (subst (λ (c : Command). LacksTrace c bytes) by lacks)
 untraced_answer one command bytes lacks status text board (listed program by source is text_is none) =
     absurd (subst (λ (c : Command). LacksTrace c bytes) by lacks)
 untraced_answer one command bytes lacks status text board (untraced mode fault by faulty is text_is none) = is
 untraced_answer one command bytes lacks status text board (ran mode run by made is text_is some) =
-    absurd (untraced_run one command bytes lacks run.program run.limit made.asked)
+    absurd (untraced_run one command bytes lacks run.program run.script made.asked)
 
 -- the answer of an undisturbed call is one to the bytes that its input told of
 told_answer : (command : Command) (known : Status) (input : InputEdge) (output : OutputEdge) (board : Option Whole) (bytes : List ℕ) {Writing : List ℕ → Type 0}

@@ -31,12 +31,12 @@ module _ (command : Command) (input : InputEdge) (output : OutputEdge) (board : 
 
     pub explains_delivered : (status before : Status) (text : List ℕ) → Answers command bytes before text board → Delivers before status output text
         → Explains command status input output board
-    explains_delivered status before text (refused refusal cause is text_is none) (inl all) =
+    explains_delivered status before text (refused fault cause is text_is none) (inl all) =
         explained_at status Refused (all.0 ∙ is)
-        (answered before Refused text (Writes output) is (refused refusal cause is text_is none) (inl all.1))
-    explains_delivered status before text (refused refusal cause is text_is none) (inr front) =
+        (answered before Refused text (Writes output) is (refused fault cause is text_is none) (inl all.1))
+    explains_delivered status before text (refused fault cause is text_is none) (inr front) =
         explained_at status Refused (front.0 ∙ ap after_fault is)
-        (answered before Refused text (Writes output) is (refused refusal cause is text_is none) (inr front.1))
+        (answered before Refused text (Writes output) is (refused fault cause is text_is none) (inr front.1))
     explains_delivered status before text (measured program by source is text_is none) (inl all) =
         explained_at status Ok (all.0 ∙ is)
         (answered before Ok text (WritesAll output) is (measured program by source is text_is none) all.1)

@@ -1,6 +1,7 @@
 -- Where a call has to succeed: a command that serves the input of a call whose ends do not fail.
 use Rattle.std.specs.Prelude.{◌≡◌, ◌⊎◌, ◌≢◌, ◌≤◌, ℕ, List, length, Option, Some, None}
 use Rattle.task_syntax.specs.declared.program.Program.{Program}
+use Rattle.serial_log.specs.declared.script.Script.{Script}
 use Rattle.trace_text.specs.declared.fault.TraceFault.{TraceFault}
 use Rattle.coati_top.specs.Answer.{AsksFor, HasFaultyTrace}
 use Rattle.coati_top.specs.Call.{InputEdge, OutputEdge, ReadingFailed, WritingFailed, input_limit}
@@ -22,11 +23,11 @@ pub record IsMeasurable (bytes : List ℕ) : Type 0 where
   pub program : Program
   pub source : HasAccepted bytes program
 
--- the source is an accepted program of the first form, and the trace a limit alone
+-- the source is an accepted program, and the second part is a trace
 pub record IsRunnable (bytes : List ℕ) : Type 0 where
   pub program : Program
-  pub limit : ℕ
-  pub asked : AsksFor bytes program limit
+  pub script : Script
+  pub asked : AsksFor bytes program script
 
 -- the command serves an input of these bytes
 abbrev pub IsServed : Command → List ℕ → Type 0
@@ -34,7 +35,7 @@ IsServed Check bytes = IsMeasurable bytes
 IsServed Dump bytes = IsMeasurable bytes
 IsServed (Run mode) bytes = IsRunnable bytes
 
--- the program of the source is of the first form, but the second part is no trace
+-- the source is an accepted program, but the second part is no trace
 pub record IsUntraced (bytes : List ℕ) : Type 0 where
   pub fault : TraceFault
   pub faulty : HasFaultyTrace bytes fault

@@ -1,79 +1,56 @@
--- The printed text of a run: the mode, the power period that suffices, a line for each mark, the variables, and how many postings are held.
-use Rattle.std.specs.Prelude.{ℕ, ◌+◌, List, [], ◌∷◌, ◌++◌, codes, decimal, flat_map, slice_get}
-use Rattle.std.specs.Option.{option_map_or}
+-- The printed text of a run: the mode, the power period that suffices, a line for each mark, the
+-- variables, and how many postings are held.
+use Rattle.std.specs.Prelude.{ℕ, zero, suc, ◌+◌, List, [], ◌∷◌, ◌++◌, codes, decimal, length}
+use Rattle.coati_word.specs.declared.mode.Mode.{Mode}
+use Rattle.coati_word.specs.declared.mode.Mode.TheVariants.{Split, Buffi}
 use Rattle.coati_word.specs.declared.reading.Reading.{Reading}
+use Rattle.task_cost.specs.Limits.{bounds_of}
 use Rattle.task_syntax.specs.declared.program.Program.{Program}
 use Rattle.task_syntax.specs.declared.program.Var.{Var}
 use Rattle.task_syntax.specs.Course.{Store}
-use Rattle.task_syntax.specs.declared.program.UnitDecl.{UnitDecl}
-use Rattle.task_syntax.specs.declared.program.UnitDecl.TheVariants.{Lone, Tx}
+use Rattle.task_syntax.specs.Names.{count_of}
 use Rattle.serial_log.specs.declared.mark.Mark.{Mark}
-use Rattle.serial_log.specs.declared.mark.MarkKind.{MarkKind}
-use Rattle.serial_log.specs.declared.mark.MarkKind.TheVariants as kind
-use Rattle.serial_log.specs.declared.record.Record.{Record}
-use Rattle.serial_log.specs.declared.unit.Unit.{Unit as Committed}
-use Rattle.serial_log.specs.declared.unit.Unit.TheVariants as unit
-use Rattle.serial_log.specs.declared.end.End.{End}
-use Rattle.serial_log.specs.declared.end.End.TheVariants as ended
-use Rattle.coati_board.specs.Board.{Whole}
-use Rattle.serial_log.specs.History.{readings_in}
 use Rattle.serial_log.specs.SerialRun.{stand_of}
-use Rattle.task_cost.specs.Limits.{bounds_of}
+use Rattle.serial_log.specs.Standing.{rest_of}
+use Rattle.coati_board.specs.Board.{Whole}
 use Rattle.coati_top.specs.Lines.{number_line}
+use Rattle.coati_top.specs.Marks.{mark_lines}
 
--- the name of the scalar that is this variable word
-abbrev pub variable_name : Program → ℕ → List ℕ
-variable_name program word = option_map_or (λ var. var.name.text) (slice_get program.vars word) []
+abbrev pub mode_line : Mode → List ℕ
+mode_line Split = codes "coati split\n"
+mode_line Buffi = codes "coati buffi\n"
 
-abbrev pub lone_name : UnitDecl → List ℕ
-lone_name (Lone task) = task.name.text
-lone_name (Tx tx) = []
+-- a blank and the value of each of so many words, the first of which is `word`
+abbrev pub value_texts : (word count : ℕ) → Store → List ℕ
+value_texts word zero store = []
+value_texts word (suc count) store =
+    codes " " ++ decimal (store word) ++ value_texts (suc word) count store
 
--- the name of the lone task of this number, where all tasks are lone
-abbrev pub task_name : Program → ℕ → List ℕ
-task_name program task = option_map_or lone_name (slice_get program.units task) []
+-- of a variable whose first word is `word`
+abbrev pub variable_text : ℕ → Var → Store → List ℕ
+variable_text word var store =
+    codes "var " ++ var.name.text ++ value_texts word (count_of var.length) store ++ codes "\n"
 
--- a blank, the variable and what was read there
-abbrev pub reading_text : Program → Reading → List ℕ
-reading_text program reading = codes " " ++ variable_name program reading.word ++ codes "=" ++ decimal reading.value
-
-abbrev pub unit_text : Program → Committed → List ℕ
-unit_text program (unit.Task task) = codes "task " ++ task_name program task
-unit_text program (unit.Transaction tx) = codes "transaction " ++ decimal tx
-unit_text program (unit.Event event) = codes "event " ++ decimal event
-
-abbrev pub end_text : End → List ℕ
-end_text ended.Idle = codes "end idle\n"
-end_text ended.Limit = codes "end limit\n"
-
--- the line of a commit that read this
-abbrev pub commit_text : Program → Record → List Reading → List ℕ
-commit_text program committed reads =
-    codes "commit " ++ unit_text program committed.unit ++ codes " reads" ++ flat_map (reading_text program) reads ++ codes "\n"
-
--- the line of a mark, with the part of all readings that is its own; a board makes no other marks yet
-abbrev pub mark_text : Program → List Reading → MarkKind → List ℕ
-mark_text program readings (kind.Commit committed) = commit_text program committed (readings_in readings committed)
-mark_text program readings (kind.End end) = end_text end
-mark_text program readings _ = []
-
-abbrev pub mark_lines : Program → List Reading → List Mark → List ℕ
-mark_lines program readings marks = flat_map (λ mark. mark_text program readings mark.kind) marks
-
-abbrev pub variable_text : List ℕ → ℕ → List ℕ
-variable_text name value = codes "var " ++ name ++ codes " " ++ decimal value ++ codes "\n"
-
--- a line for each of these scalars, the first of which is the variable word `word`
+-- a line for each of these variables, the first word of which is `word`
 abbrev pub variable_lines : ℕ → List Var → Store → List ℕ
 variable_lines word [] store = []
-variable_lines word (var ∷ more) store = variable_text var.name.text (store word) ++ variable_lines (word + 1) more store
+variable_lines word (var ∷ more) store =
+    variable_text word var store ++ variable_lines (word + count_of var.length) more store
+
+-- how many postings are held
+abbrev pub held_line : ℕ → List ℕ
+held_line held = number_line (codes "held") held
 
 -- the whole text
-abbrev pub printed_text : Program → List Mark → List Reading → Store → List ℕ
-printed_text program marks readings store =
-    codes "coati split\n" ++ number_line (codes "bound") (bounds_of program).b ++ mark_lines program readings marks ++ variable_lines 0 program.vars store ++ codes "held 0\n"
+abbrev pub printed_text : Program → Mode → List Mark → List Reading → Store → ℕ → List ℕ
+printed_text program mode marks readings store held =
+    mode_line mode ++ number_line (codes "bound") (bounds_of program).b
+    ++ mark_lines program readings marks ++ variable_lines 0 program.vars store ++ held_line held
 
--- the text of a board: its history, and the words to which the serial run of its history leads
+-- the text of a board: its history, the words to which the serial run of its history leads, and how many of its accepted
+-- postings no record serves
 abbrev pub board_text : Whole → List ℕ
 board_text board =
-    printed_text board.program board.device.history.marks board.device.history.readings (stand_of board.program board.device.history).store
+    printed_text board.program board.mode board.device.history.marks board.device.history.readings
+    (stand_of board.program board.device.history).store
+    (length (rest_of board.program board.device.history.marks))

@@ -4,8 +4,6 @@ use Rattle.task_check.specs.Accepted.{number_of}
 use Rattle.task_check.specs.declared.rule.Rule.{Rule}
 use Rattle.task_check.specs.declared.rule.Rule.TheVariants.{TwiceNamed, Unknown, WrongKind, BadCount, BadBuffer, TooManyWords, TooManyTasks, NoEnding, EarlyEnding, IntoTx, TopReadsNv, GiveShape, LoopAssigned, TooManyLocals, TooDeepStack, TooLong}
 use Rattle.coati_top.specs.Lines.{word_and_number}
-use Rattle.coati_top.specs.declared.refusal.Refusal.{Refusal}
-use Rattle.coati_top.specs.declared.refusal.Refusal.TheVariants.{Source, Later}
 use Rattle.coati_top.specs.declared.source_fault.SourceFault.{SourceFault}
 use Rattle.coati_top.specs.declared.source_fault.SourceFault.TheVariants as fault
 
@@ -35,12 +33,8 @@ fault_text (fault.Syntax token) = word_and_number (codes "syntax") token
 fault_text (fault.Deep token) = word_and_number (codes "deep") token
 fault_text (fault.Rule rule at) = word_and_number (word_and_number (codes "rule") (number_of rule) ++ codes " " ++ rule_text rule ++ codes " at") at
 
-abbrev pub reason_text : Refusal → List ℕ
-reason_text (Source fault) = fault_text fault
-reason_text Later = codes "later"
-
-abbrev pub refusal_text : Refusal → List ℕ
-refusal_text refusal = codes "refused " ++ reason_text refusal ++ codes "\n"
+abbrev pub refusal_text : SourceFault → List ℕ
+refusal_text fault = codes "refused " ++ fault_text fault ++ codes "\n"
 
 abbrev pub usage_text : List ℕ
 usage_text = codes "usage: coati check | dump | run MODE | live MODE | replay MODE | gen N\n"

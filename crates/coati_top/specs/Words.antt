@@ -1,8 +1,13 @@
 -- The words of a command line, without the program's name.
-use Rattle.std.specs.Prelude.{ℕ, List, [], ◌∷◌, Option, Some, None, codes, bytes_eq, if◌then◌else◌}
+use Rattle.std.specs.Prelude.{ℕ, ◌≡◌, List, [], ◌∷◌, Option, Some, None, codes, bytes_eq, if◌then◌else◌}
 use Rattle.coati_word.specs.declared.mode.Mode.TheVariants.{Split}
 use Rattle.coati_top.specs.declared.command.Command.{Command}
 use Rattle.coati_top.specs.declared.command.Command.TheVariants.{Check, Dump, Run}
+
+-- the command's mode is served: events are served in split alone so far
+abbrev pub HasServedMode : Command → Type 0
+HasServedMode (Run mode) = mode ≡ Split
+HasServedMode _ = Unit {0}
 
 -- the command that two words are
 abbrev pub command_of_two : List ℕ → List ℕ → Option Command

@@ -1,19 +1,17 @@
 ghost use Rattle.std.specs.Prelude.{◌≡◌, ◌≤◌, length, IfOk};
-ghost use Rattle.coati_top.specs.Answer.{Answers, AsksFor, IsRefused};
-ghost use Rattle.coati_board.specs.FirstForm.{IsFirstForm};
+ghost use Rattle.coati_top.specs.Answer.{Answers, AsksFor};
 ghost use Rattle.coati_top.specs.Divided.{second_part};
-ghost use Rattle.coati_top.specs.Source.{HasAccepted};
+ghost use Rattle.coati_top.specs.Source.{HasAccepted, IsSourceFault};
+ghost use Rattle.coati_top.specs.Words.{HasServedMode};
 ghost use Rattle.trace_text.specs.Answer.{Explains};
-ghost use Rattle.trace_text.specs.Trace.{TraceText};
 
 use crate::check_text::check_text;
 use crate::divided::second_part;
-use crate::drive::run_to_end;
-use crate::first_form::is_first_form;
+use crate::drive::run_script;
 use crate::printed::printed;
-use crate::refusal::Refusal;
+use crate::refusal::refusal_text;
 use crate::source::read_source;
-use crate::source_fault::NoProgram;
+use crate::source_fault::{NoProgram, SourceFault};
 use crate::trace_refusal::trace_refusal;
 use crate::{Command, Status};
 use coati_board::Board;
@@ -35,12 +33,13 @@ pub(crate) struct Reply {
 
 /// The command's answer to the input.
 pub(crate) fn answer_to(alloc: Global, command: Command, input: &[u8]) -> Result<Reply, OutOfMemory>
-    requires { length input.now ≤ 262144 }
+    requires small { length input.now ≤ 262144 }
+    requires mode { HasServedMode command }
     ensures { IfOk result (λ reply. Answers command input.now reply.status reply.text.items reply.board) }
 {
     match read_source(alloc, input) {
         Ok(checked) => answer_about(alloc, command, input, checked),
-        Err(NoProgram::Fault(fault)) => refused(alloc, command, input, Refusal::Source(fault)),
+        Err(NoProgram::Fault(fault)) => refused(alloc, command, input, fault),
         Err(NoProgram::OutOfMemory) => Err(OutOfMemory),
     }
 }
@@ -53,6 +52,7 @@ fn answer_about(
     checked: Checked,
 ) -> Result<Reply, OutOfMemory>
     requires small { length input.now ≤ 262144 }
+    requires mode { HasServedMode command }
     requires source { HasAccepted input.now checked }
     ensures { IfOk result (λ reply. Answers command input.now reply.status reply.text.items reply.board) }
 {
@@ -63,17 +63,17 @@ fn answer_about(
     }
 }
 
-/// The answer to an input that is refused.
+/// The answer to an input whose source is no accepted program.
 fn refused(
     alloc: Global,
     command: Command,
     input: &[u8],
-    refusal: Refusal,
+    fault: SourceFault,
 ) -> Result<Reply, OutOfMemory>
-    requires { IsRefused command input.now refusal }
+    requires { IsSourceFault input.now fault }
     ensures { IfOk result (λ reply. Answers command input.now reply.status reply.text.items reply.board) }
 {
-    let text = refusal.text(alloc)?;
+    let text = refusal_text(alloc, fault)?;
     Ok(Reply {
         status: Status::Refused,
         text,
@@ -111,37 +111,14 @@ fn listed(alloc: Global, input: &[u8], checked: &Checked) -> Result<Reply, OutOf
 /// What `run` answers to an accepted program.
 fn run(alloc: Global, mode: Mode, input: &[u8], checked: Checked) -> Result<Reply, OutOfMemory>
     requires small { length input.now ≤ 262144 }
+    requires mode { mode ≡ Mode.Split }
     requires source { HasAccepted input.now checked }
     ensures { IfOk result (λ reply. Answers (Command.Run mode) input.now reply.status reply.text.items reply.board) }
 {
-    if !is_first_form(checked.program()) {
-        return refused(alloc, Command::Run(mode), input, Refusal::Later);
-    }
     match read_trace(alloc, &checked, second_part(input)) {
-        Ok(script) => run_script(alloc, mode, input, checked, &script),
+        Ok(script) => ran(alloc, mode, input, checked, script),
         Err(fault) => untraced(alloc, mode, input, &checked, fault),
     }
-}
-
-/// What `run` answers to a program of the first form and a trace, which is this script.
-fn run_script(
-    alloc: Global,
-    mode: Mode,
-    input: &[u8],
-    checked: Checked,
-    script: &Script,
-) -> Result<Reply, OutOfMemory>
-    requires source { HasAccepted input.now checked }
-    requires form { IsFirstForm checked }
-    requires trace { TraceText checked (second_part input.now) script.now }
-    ensures { IfOk result (λ reply. Answers (Command.Run mode) input.now reply.status reply.text.items reply.board) }
-{
-    scripts_are_within_the_limits();
-    // The board that is served has no cuts, and its programs have no events.
-    if !script.power.as_slice().is_empty() || !script.postings.as_slice().is_empty() {
-        return refused(alloc, Command::Run(mode), input, Refusal::Later);
-    }
-    ran(alloc, mode, input, checked, script.limit)
 }
 
 /// The answer to an input whose second part is no trace.
@@ -153,7 +130,6 @@ fn untraced(
     fault: TraceFault,
 ) -> Result<Reply, OutOfMemory>
     requires source { HasAccepted input.now checked.now }
-    requires form { IsFirstForm checked.now }
     requires fault { Explains checked.now (second_part input.now) fault }
     ensures { IfOk result (λ reply. Answers (Command.Run mode) input.now reply.status reply.text.items reply.board) }
 {
@@ -171,14 +147,14 @@ fn ran(
     mode: Mode,
     input: &[u8],
     checked: Checked,
-    limit: u32,
+    script: Script,
 ) -> Result<Reply, OutOfMemory>
-    requires asked { AsksFor input.now checked limit }
-    requires limit { limit ≤ 500000 }
+    requires asked { AsksFor input.now checked script }
+    requires mode { mode ≡ Mode.Split }
     ensures { IfOk result (λ reply. Answers (Command.Run mode) input.now reply.status reply.text.items reply.board) }
 {
-    let mut board = Board::open(alloc, checked, limit)?;
-    run_to_end(&mut board);
+    scripts_are_within_the_limits();
+    let board = run_script(alloc, checked, mode, script)?;
     let text = printed(alloc, &board)?;
     Ok(Reply {
         status: Status::Ok,

@@ -1,5 +1,5 @@
-ghost use Rattle.std.specs.Prelude.{◌≡◌, map, string_bytes};
-ghost use Rattle.coati_top.specs.Words.{command_of};
+ghost use Rattle.std.specs.Prelude.{◌≡◌, IfSome, map, string_bytes};
+ghost use Rattle.coati_top.specs.Words.{HasServedMode, command_of};
 
 use coati_word::Mode;
 
@@ -16,7 +16,8 @@ pub enum Command {
 
 /// The command of the words, without the program's name.
 pub fn command_of(words: &[String]) -> Option<Command>
-    ensures { result ≡ command_of (map string_bytes words.now) }
+    ensures command { result ≡ command_of (map string_bytes words.now) }
+    ensures served { IfSome result HasServedMode }
 {
     match words {
         [command] if command.as_str() == "check" => Some(Command::Check),

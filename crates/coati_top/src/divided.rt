@@ -2,14 +2,14 @@ ghost use Rattle.std.specs.Prelude.{◌≡◌, ◌+◌, ◌≤◌, length, drop}
 ghost use Rattle.coati_top.specs.Divided.{source_length, source_part, second_part, begins_divider};
 
 /// The part of an input before its first line that is exactly `%%`, or the whole input where it has none.
-pub(crate) fn source_part(input: &[u8]) -> &[u8]
+pub fn source_part(input: &[u8]) -> &[u8]
     ensures { result.now ≡ source_part input.now }
 {
     &input[..source_length(input)]
 }
 
 /// The part behind that line, which is empty where there is none.
-pub(crate) fn second_part(input: &[u8]) -> &[u8]
+pub fn second_part(input: &[u8]) -> &[u8]
     ensures { result.now ≡ second_part input.now }
 {
     let divider = source_length(input) + DIVIDER_LINE;

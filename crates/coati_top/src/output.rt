@@ -7,14 +7,14 @@ use coati_text::put_decimal;
 use coati_word::OutOfMemory;
 
 /// Appends bytes.
-pub(crate) fn put(out: &mut Vec<u8>, bytes: &[u8]) -> Result<(), OutOfMemory>
+pub fn put(out: &mut Vec<u8>, bytes: &[u8]) -> Result<(), OutOfMemory>
     ensures { OnOk result (out.new.items ≡ out.old.items ++ bytes.now) }
 {
     out.extend_from_slice(bytes).map_err(|_| OutOfMemory)
 }
 
 /// Appends a word and the number behind it.
-pub(crate) fn put_number(out: &mut Vec<u8>, word: &[u8], number: u32) -> Result<(), OutOfMemory>
+pub fn put_number(out: &mut Vec<u8>, word: &[u8], number: u32) -> Result<(), OutOfMemory>
     ensures { OnOk result (out.new.items ≡ out.old.items ++ word_and_number word.now number) }
 {
     put(out, word)?;

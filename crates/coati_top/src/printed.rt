@@ -1,170 +1,86 @@
-ghost use Rattle.std.specs.Prelude.{◌≡◌, ◌<◌, ◌∷◌, [], ◌++◌, length, codes, decimal, flat_map, slice_get, Some, IfOk, OnOk};
-ghost use Rattle.std.specs.List.{Any};
-ghost use Rattle.serial_log.specs.declared.mark.MarkKind.{MarkKind};
-ghost use Rattle.serial_log.specs.History.{HasRecord, readings_in};
-ghost use Rattle.serial_log.specs.SerialRun.{SerialRun, stand_of};
-ghost use Rattle.coati_board.specs.Sound.{StandsFor};
-ghost use Rattle.coati_top.specs.Printed.{variable_name, task_name, reading_text, unit_text, end_text, mark_text, commit_text, mark_lines, variable_text, variable_lines, board_text};
+ghost use Rattle.std.specs.Prelude.{◌≡◌, ◌+◌, ◌≤◌, ◌++◌, IfOk, OnOk, length};
+ghost use Rattle.serial_log.specs.SerialRun.{stand_of};
+ghost use Rattle.serial_log.specs.Standing.{rest_of};
+ghost use Rattle.task_syntax.specs.Names.{count_of, word_count};
+ghost use Rattle.coati_top.specs.Printed.{board_text, held_line, mode_line, value_texts, variable_lines};
+ghost use Rattle.coati_top.specs.Printed.{variable_text};
 
-use crate::output::{put, put_number_line};
+use crate::marks::put_marks;
+use crate::names::Names;
+use crate::output::{put, put_number, put_number_line};
 use coati_board::Board;
-use coati_text::put_decimal;
-use coati_word::{OutOfMemory, Reading};
-use serial_log::{End, History, MarkKind, Record, Unit};
+use coati_word::{Mode, OutOfMemory};
 use std::alloc::Global;
 use task_cost::bounds;
-use task_syntax::{Program, UnitDecl};
-
-/// Appends the name of a variable word.
-fn put_variable_name(out: &mut Vec<u8>, program: &Program, word: u16) -> Result<(), OutOfMemory>
-    ensures { OnOk result (out.new.items ≡ out.old.items ++ variable_name program.now word) }
-{
-    match program.vars.as_slice().get(word as usize) {
-        Some(var) => put(out, var.name.text.as_slice()),
-        None => Ok(()),
-    }
-}
-
-/// Appends what was read at a variable.
-fn put_reading(out: &mut Vec<u8>, program: &Program, reading: &Reading) -> Result<(), OutOfMemory>
-    ensures { OnOk result (out.new.items ≡ out.old.items ++ reading_text program.now reading.now) }
-{
-    put(out, b" ")?;
-    put_variable_name(out, program, reading.word)?;
-    put(out, b"=")?;
-    put_decimal(out, u32::from(reading.value))
-}
-
-/// Appends all that a unit read.
-fn put_readings(
-    out: &mut Vec<u8>,
-    program: &Program,
-    readings: &[Reading],
-) -> Result<(), OutOfMemory>
-    ensures { OnOk result (out.new.items ≡ out.old.items ++ flat_map (reading_text program.now) readings.now) }
-{
-    for reading in readings {
-        put_reading(out, program, reading)?;
-    }
-    Ok(())
-}
-
-/// Appends the kind and the name of a committed unit.
-fn put_unit(out: &mut Vec<u8>, program: &Program, unit: Unit) -> Result<(), OutOfMemory>
-    ensures { OnOk result (out.new.items ≡ out.old.items ++ unit_text program.now unit) }
-{
-    match unit {
-        Unit::Task(task) => {
-            put(out, b"task ")?;
-            put_task_name(out, program, task)
-        }
-        Unit::Transaction(tx) => {
-            put(out, b"transaction ")?;
-            put_decimal(out, u32::from(tx))
-        }
-        Unit::Event(event) => {
-            put(out, b"event ")?;
-            put_decimal(out, u32::from(event))
-        }
-    }
-}
-
-fn put_task_name(out: &mut Vec<u8>, program: &Program, task: u16) -> Result<(), OutOfMemory>
-    ensures { OnOk result (out.new.items ≡ out.old.items ++ task_name program.now task) }
-{
-    match program.units.as_slice().get(task as usize) {
-        Some(UnitDecl::Lone(declared)) => put(out, declared.name.text.as_slice()),
-        _ => Ok(()),
-    }
-}
-
-/// Appends the line of a commit, with what it read.
-fn put_commit(
-    out: &mut Vec<u8>,
-    program: &Program,
-    committed: &Record,
-    readings: &[Reading],
-) -> Result<(), OutOfMemory>
-    ensures { OnOk result (out.new.items ≡ out.old.items ++ commit_text program.now committed.now readings.now) }
-{
-    put(out, b"commit ")?;
-    put_unit(out, program, committed.unit)?;
-    put(out, b" reads")?;
-    put_readings(out, program, readings)?;
-    put(out, b"\n")
-}
-
-/// Appends the line of the end.
-fn put_end(out: &mut Vec<u8>, end: End) -> Result<(), OutOfMemory>
-    ensures { OnOk result (out.new.items ≡ out.old.items ++ end_text end) }
-{
-    match end {
-        End::Idle => put(out, b"end idle\n"),
-        End::Limit => put(out, b"end limit\n"),
-    }
-}
-
-/// Appends the line of a mark of the history.
-fn put_mark(
-    out: &mut Vec<u8>,
-    program: &Program,
-    history: &History,
-    kind: &MarkKind,
-) -> Result<(), OutOfMemory>
-    requires { Any (λ mark. mark.kind ≡ kind.now) history.now.marks }
-    ensures { OnOk result (out.new.items ≡ out.old.items ++ mark_text program.now history.now.readings kind.now) }
-{
-    match kind {
-        MarkKind::Commit(committed) => {
-            put_commit(out, program, committed, history.readings(committed))
-        }
-        MarkKind::End(end) => put_end(out, *end),
-        _ => Ok(()),
-    }
-}
-
-/// Appends a line for each mark of the history.
-fn put_marks(out: &mut Vec<u8>, program: &Program, history: &History) -> Result<(), OutOfMemory>
-    ensures { OnOk result (out.new.items ≡ out.old.items ++ mark_lines program.now history.now.readings history.now.marks) }
-{
-    for mark in history.marks() {
-        put_mark(out, program, history, &mark.kind)?;
-    }
-    Ok(())
-}
-
-/// Appends the line of a variable.
-fn put_variable(out: &mut Vec<u8>, name: &[u8], value: u16) -> Result<(), OutOfMemory>
-    ensures { OnOk result (out.new.items ≡ out.old.items ++ variable_text name.now value) }
-{
-    put(out, b"var ")?;
-    put(out, name)?;
-    put(out, b" ")?;
-    put_decimal(out, u32::from(value))?;
-    put(out, b"\n")
-}
-
-/// Appends a line for each variable, with its committed value, which is that of the serial run.
-fn put_variables(out: &mut Vec<u8>, board: &Board) -> Result<(), OutOfMemory>
-    ensures { OnOk result (out.new.items ≡ out.old.items ++ variable_lines 0 board.now.program.vars (stand_of board.now.program board.now.device.history).store) }
-{
-    let _words = board.words();
-    for (word, var) in board.program().vars.as_slice().iter().enumerate() {
-        put_variable(out, var.name.text.as_slice(), board.store_word(word as u16))?;
-    }
-    Ok(())
-}
+use task_syntax::Var;
 
 /// The printed text of a run that was closed.
 pub(crate) fn printed(alloc: Global, board: &Board) -> Result<Vec<u8>, OutOfMemory>
-    ensures text { IfOk result (λ text. text.items ≡ board_text board.now) }
-    ensures serial { OnOk result (SerialRun board.now.program board.now.device.history) }
-    ensures stands { OnOk result (StandsFor board.now.program board.now.device.memory board.now.device.history) }
+    ensures { IfOk result (λ text. text.items ≡ board_text board.now) }
 {
-    let mut out = Vec::from_slice(alloc, b"coati split\n").map_err(|_| OutOfMemory)?;
+    let mut out = Vec::new(alloc);
+    put(&mut out, mode_line(board.mode()))?;
     put_number_line(&mut out, b"bound", bounds(board.checked()).b)?;
-    put_marks(&mut out, board.program(), board.history())?;
+    let names = Names::new(alloc, board.checked())?;
+    put_marks(&mut out, &names, board.history())?;
     put_variables(&mut out, board)?;
-    put(&mut out, b"held 0\n")?;
+    put_held(&mut out, board)?;
     Ok(out)
+}
+
+fn mode_line(mode: Mode) -> &'static [u8]
+    ensures { result.now ≡ mode_line mode }
+{
+    match mode {
+        Mode::Split => b"coati split\n",
+        Mode::Buffi => b"coati buffi\n",
+    }
+}
+
+/// Appends a line for each variable, with its committed words, which are those of the serial run.
+fn put_variables(out: &mut Vec<u8>, board: &Board) -> Result<(), OutOfMemory>
+    ensures { OnOk result (out.new.items ≡ out.old.items ++ variable_lines 0 board.now.program.vars
+        (stand_of board.now.program board.now.device.history).store) }
+{
+    let _words = board.checked().words();
+    let mut first = 0;
+    for var in board.checked().program().vars.as_slice() {
+        put_variable(out, board, first, var)?;
+        first += var.length.unwrap_or(1);
+    }
+    Ok(())
+}
+
+/// Appends the line of a variable, by its first word.
+fn put_variable(out: &mut Vec<u8>, board: &Board, first: u16, var: &Var) -> Result<(), OutOfMemory>
+    requires { first + count_of var.now.length ≤ word_count board.now.program.vars }
+    ensures { OnOk result (out.new.items ≡ out.old.items ++ variable_text first var.now
+        (stand_of board.now.program board.now.device.history).store) }
+{
+    put(out, b"var ")?;
+    put(out, var.name.text.as_slice())?;
+    put_values(out, board, first, var.length.unwrap_or(1))?;
+    put(out, b"\n")
+}
+
+/// Appends the committed values of so many words.
+fn put_values(out: &mut Vec<u8>, board: &Board, first: u16, count: u16) -> Result<(), OutOfMemory>
+    requires { first + count ≤ word_count board.now.program.vars }
+    ensures { OnOk result (out.new.items ≡ out.old.items ++ value_texts first count
+        (stand_of board.now.program board.now.device.history).store) }
+{
+    let _words = board.checked().words();
+    for index in 0..count {
+        put_number(out, b"", u32::from(board.store_word(first + index)))?;
+    }
+    Ok(())
+}
+
+/// Appends the line of how many postings are held, which are those that no record of the history serves.
+fn put_held(out: &mut Vec<u8>, board: &Board) -> Result<(), OutOfMemory>
+    ensures { OnOk result (out.new.items ≡ out.old.items
+        ++ held_line (length (rest_of board.now.program board.now.device.history.marks))) }
+{
+    let _history = board.history();
+    put_number_line(out, b"held", u32::from(board.held()))
 }

@@ -1,5 +1,5 @@
 ghost use Rattle.std.specs.Prelude.{◌≡◌, ◌++◌, IfOk, OnOk};
-ghost use Rattle.coati_top.specs.Refusal.{fault_text, reason_text, refusal_text, rule_text};
+ghost use Rattle.coati_top.specs.Refusal.{fault_text, refusal_text, rule_text};
 ghost use Rattle.task_check.specs.Accepted.{number_of};
 
 use crate::output::{put, put_number};
@@ -8,34 +8,14 @@ use coati_word::OutOfMemory;
 use std::alloc::Global;
 use task_check::Rule;
 
-/// Why an input is not served.
-#[derive(Clone, Copy, Debug, PartialEq, Eq)]
-pub(crate) enum Refusal {
-    /// What is wrong with its source.
-    Source(SourceFault),
-    /// It is of a form that is not served yet.
-    Later,
-}
-
-impl Refusal {
-    /// The line that says so.
-    pub(crate) fn text(self, alloc: Global) -> Result<Vec<u8>, OutOfMemory>
-        ensures { IfOk result (λ text. text.items ≡ refusal_text self) }
-    {
-        let mut out = Vec::from_slice(alloc, b"refused ").map_err(|_| OutOfMemory)?;
-        put_reason(&mut out, self)?;
-        put(&mut out, b"\n")?;
-        Ok(out)
-    }
-}
-
-fn put_reason(out: &mut Vec<u8>, refusal: Refusal) -> Result<(), OutOfMemory>
-    ensures { OnOk result (out.new.items ≡ out.old.items ++ reason_text refusal) }
+/// The line that says what is wrong with a source.
+pub(crate) fn refusal_text(alloc: Global, fault: SourceFault) -> Result<Vec<u8>, OutOfMemory>
+    ensures { IfOk result (λ text. text.items ≡ refusal_text fault) }
 {
-    match refusal {
-        Refusal::Source(fault) => put_fault(out, fault),
-        Refusal::Later => put(out, b"later"),
-    }
+    let mut out = Vec::from_slice(alloc, b"refused ").map_err(|_| OutOfMemory)?;
+    put_fault(&mut out, fault)?;
+    put(&mut out, b"\n")?;
+    Ok(out)
 }
 
 fn put_fault(out: &mut Vec<u8>, fault: SourceFault) -> Result<(), OutOfMemory>
@@ -53,14 +33,14 @@ fn put_fault(out: &mut Vec<u8>, fault: SourceFault) -> Result<(), OutOfMemory>
 fn put_broken(out: &mut Vec<u8>, rule: Rule, at: u32) -> Result<(), OutOfMemory>
     ensures { OnOk result (out.new.items ≡ out.old.items ++ fault_text (SourceFault.Rule rule at)) }
 {
-    put_number(out, b"rule", number(rule))?;
+    put_number(out, b"rule", rule_number(rule))?;
     put(out, b" ")?;
     put_rule(out, rule)?;
     put_number(out, b" at", at)
 }
 
 /// The number of a rule.
-fn number(rule: Rule) -> u32
+pub fn rule_number(rule: Rule) -> u32
     ensures { result ≡ number_of rule }
 {
     match rule {
@@ -84,7 +64,7 @@ fn number(rule: Rule) -> u32
 }
 
 /// The name of a rule, and the number that it tells.
-fn put_rule(out: &mut Vec<u8>, rule: Rule) -> Result<(), OutOfMemory>
+pub fn put_rule(out: &mut Vec<u8>, rule: Rule) -> Result<(), OutOfMemory>
     ensures { OnOk result (out.new.items ≡ out.old.items ++ rule_text rule) }
 {
     match rule {

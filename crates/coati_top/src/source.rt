@@ -18,7 +18,7 @@ use task_parse::{ParseFault, parse};
 use task_syntax::Program;
 
 /// The accepted program of an input's source.
-pub(crate) fn read_source(alloc: Global, input: &[u8]) -> Result<Checked, NoProgram>
+pub fn read_source(alloc: Global, input: &[u8]) -> Result<Checked, NoProgram>
     requires { length input.now ≤ 262144 }
     ensures program { IfOk result (HasAccepted input.now) }
     ensures fault { IfErr result (Explains input.now) }

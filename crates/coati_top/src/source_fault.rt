@@ -2,7 +2,7 @@ use task_check::Rule;
 
 /// What is wrong with a source.
 #[derive(Clone, Copy, Debug, PartialEq, Eq)]
-pub(crate) enum SourceFault {
+pub enum SourceFault {
     /// At this place stands a byte that starts nothing.
     Lexical(u32),
     /// At this place stands a number that is none.
@@ -17,7 +17,7 @@ pub(crate) enum SourceFault {
 
 /// Why a source gives no accepted program.
 #[derive(Clone, Copy)]
-pub(crate) enum NoProgram {
+pub enum NoProgram {
     Fault(SourceFault),
     OutOfMemory,
 }

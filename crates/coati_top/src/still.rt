@@ -1,7 +1,7 @@
 ghost use Rattle.std.specs.Prelude.{◌≡◌, ◌≤◌, length, map, string_bytes, None, Some};
 ghost use Rattle.coati_top.specs.Call.{input_edge, output_edge, after_fault, Explained, Explains, Delivers, AnswersTo};
 ghost use Rattle.coati_top.specs.Complete.{Completes, IsSteadyInput};
-ghost use Rattle.coati_top.specs.Words.{command_of};
+ghost use Rattle.coati_top.specs.Words.{HasServedMode, command_of};
 
 use crate::answer::{Reply, answer_to};
 use crate::{Command, Done, Status, command_of};
@@ -44,6 +44,7 @@ const USAGE: &[u8] = b"usage: coati check | dump | run MODE | live MODE | replay
 
 /// Does what a command says.
 fn run<S: Source, K: Sink>(alloc: Global, command: Command, input: &mut S, output: &mut K) -> Done
+    requires { HasServedMode command }
     ensures explained { Explains command result.status
         (input_edge S.left S.faults input.old input.new) (output_edge K.taken K.faults K.spare output.old output.new) result.board }
     ensures steady { S.sound input.old → IsSteadyInput result.status (input_edge S.left S.faults input.old input.new) }
@@ -60,7 +61,8 @@ fn run<S: Source, K: Sink>(alloc: Global, command: Command, input: &mut S, outpu
 
 /// Answers to all that was read.
 fn answer<K: Sink>(alloc: Global, command: Command, bytes: &[u8], output: &mut K) -> Done
-    requires { length bytes.now ≤ 262144 }
+    requires small { length bytes.now ≤ 262144 }
+    requires mode { HasServedMode command }
     ensures { AnswersTo command bytes.now result.status (output_edge K.taken K.faults K.spare output.old output.new) result.board }
 {
     match answer_to(alloc, command, bytes) {
@@ -89,7 +91,7 @@ fn without_board(status: Status) -> Done
 }
 
 /// Writes the text that belongs to a status. Where that fails, `Ok` becomes a write fault, and another status stays.
-fn deliver<K: Sink>(output: &mut K, status: Status, text: &[u8]) -> Status
+pub fn deliver<K: Sink>(output: &mut K, status: Status, text: &[u8]) -> Status
     ensures { Delivers status result (output_edge K.taken K.faults K.spare output.old output.new) text.now }
 {
     match write_all(output, text) {

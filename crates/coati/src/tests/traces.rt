@@ -1,4 +1,4 @@
-use super::{AMPLE, COUNTING, call};
+use super::{AMPLE, COUNTING, DEVICE, call};
 use coati_top::{Status, spelled_programs_are_well_formed};
 use serial_log::Script;
 use std::alloc::Global;
@@ -81,6 +81,44 @@ fn a_faulty_trace_is_told(rt: HostRuntime) -> Result<(), Fail> {
 }
 
 #[test]
+fn a_faulty_trace_of_postings_is_told(rt: HostRuntime) -> Result<(), Fail> {
+    let alloc = rt.alloc();
+    let many = many_postings(alloc, 9, 4097, "e")?;
+    let table = [
+        ("", Status::BadTrace, "trace without limit\n"),
+        (
+            "limit 9\nat 5 0 e 1\nat 4 0 e 1\n",
+            Status::BadTrace,
+            "trace line 3 order\n",
+        ),
+        (
+            "limit 9\nat 5 0 f 1\n",
+            Status::BadTrace,
+            "trace line 2 unknown\n",
+        ),
+        (
+            "limit 9\nat 5 8 e 1\n",
+            Status::BadTrace,
+            "trace line 2 bad\n",
+        ),
+        ("limit 500001\n", Status::BadTrace, "trace line 1 many\n"),
+        (many.as_str(), Status::BadTrace, "trace line 4098 many\n"),
+        (
+            "limit 1000",
+            Status::Ok,
+            "coati split\nbound 192\ncommit transaction t tasks 2 reads a=1 a=2\nend idle\nvar a 20\nvar b 0\nheld 0\n",
+        ),
+    ];
+    for (trace, status, text) in table {
+        let input = format!(in alloc; "{DEVICE}\n%%\n{trace}")?;
+        let answer = call(alloc, &["run", "split"], input.as_bytes(), AMPLE, AMPLE)?;
+        assert_eq!(rt; answer.0, status, "{text}");
+        assert_eq!(rt; answer.1.as_slice(), text.as_bytes(), "{text}");
+    }
+    Ok(())
+}
+
+#[test]
 fn a_trace_is_run_up_to_its_limit(rt: HostRuntime) -> Result<(), Fail> {
     let alloc = rt.alloc();
     let table = [
@@ -90,7 +128,12 @@ fn a_trace_is_run_up_to_its_limit(rt: HostRuntime) -> Result<(), Fail> {
             Status::Ok,
             "coati split\n",
         ),
-        ("limit 1000\npower 5\n", Status::Refused, "refused later\n"),
+        ("limit 1000\npower 5\n", Status::Ok, "coati split\n"),
+        (
+            "limit 1000\npower 4000000 times 4096",
+            Status::Ok,
+            "coati split\n",
+        ),
     ];
     for (trace, status, text) in table {
         let input = format!(in alloc; "{COUNTING}{trace}")?;

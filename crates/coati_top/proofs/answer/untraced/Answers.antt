@@ -22,7 +22,6 @@ returns c = untraced c.args.mode c.args.fault refl
     (record {
       program = c.args.checked.now;
       source = c.requires.source;
-      form = c.requires.form;
       first = first c.args.checked.now (second_part c.args.input.now) c.args.fault c.in_ok-text.ensures.told c.requires.fault;
     })
     refl c.in_ok-text.ensures.text refl

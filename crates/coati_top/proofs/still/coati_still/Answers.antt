@@ -8,7 +8,7 @@ pub returns-in-Some-clause-complete : goal.returns-in-Some-clause-complete
 returns-in-Some-clause-complete g c =
     let input = input_edge g.S.Source.left g.S.Source.faults c.args.input.now c.run.new.input in
     let output = output_edge g.K.Sink.taken g.K.Sink.faults g.K.Sink.spare c.args.output.now c.run.new.output in
-    let is : command_of (map string_bytes c.args.words.now) ≡ Some c.in-Some.command = sym c.command_of.ensures ∙ c.in-Some.is in
+    let is : command_of (map string_bytes c.args.words.now) ≡ Some c.in-Some.command = sym c.command_of.ensures.command ∙ c.in-Some.is in
     let one : HasOneAnswer = record {
       tokens = c.each_source_has_one_answer.ensures.tokens;
       lexical = c.each_source_has_one_answer.ensures.apart;

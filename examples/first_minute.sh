@@ -78,8 +78,9 @@ try)
     ;;
 all) printf '== %s\n' coati_word coati summary ;;
 run)
-    mkdir -p out && cp "$room/program" out/coati && chmod 755 out/coati
-    printf 'logic=proved\nrt: running out/coati\n'
+    name=\${PWD##*/}
+    mkdir -p out && cp "$room/program" "out/\$name" && chmod 755 "out/\$name"
+    printf 'logic=proved\nrt: running out/%s\n' "\$name"
     exit 2
     ;;
 esac
@@ -120,6 +121,12 @@ try_matching_by_content() {
     expect "the program that was built is run, with its words, input and status" "$proved" "$(told_by "$here/coati")"
     find "$here" -exec touch {} +
     expect "newer times start no build" "$proved" "$(told_by "$here/coati")"
+    expect "the explaining program is another, and not built yet" "$unproved" "$(told_by "$here/explain")"
+    "$here/build" explain </dev/null 2>/dev/null
+    expect "the status of its build" 0 $?
+    expect "the explaining program is run once it is built" "$proved" "$(told_by "$here/explain")"
+    "$here/build" another </dev/null 2>/dev/null
+    expect "the status of the build of no program" 1 $?
     cp -R "$here" "$room/elsewhere"
     expect "a copy elsewhere starts no build" "$proved" "$(told_by "$room/elsewhere/coati")"
     ln -s "$here/coati" "$room/link"
@@ -137,7 +144,7 @@ try_matching_by_content() {
     PATH=$room/plain
     expect "a proved program needs no toolchain" "$proved" "$(told_by "$here/coati")"
     rm -rf "$here/out"
-    for command in coati build; do
+    for command in coati explain build; do
         "$here/$command" </dev/null >"$room/output" 2>"$room/said"
         expect "the status of ./$command without the toolchain" 1 $?
         expect "./$command without the toolchain says in one line what it is, and nothing else" "1 1" \

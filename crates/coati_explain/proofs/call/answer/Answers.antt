@@ -1,0 +1,6 @@
+use Rattle.coati_explain.specs.Call.AnswersTo.{delivered}
+use Rattle.coati_explain.proofs.call.answer.Goals as goal
+
+pub returns-in-Ok : goal.returns-in-Ok
+returns-in-Ok g c =
+    delivered c.in-Ok.field-0.status c.in-Ok.field-0.text.items c.in-Ok.ensures (rw c.deref.ensures.value at c.deliver.ensures)

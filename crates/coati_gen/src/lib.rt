@@ -7,3 +7,6 @@ mod text;
 
 pub use fault::GenFault;
 pub use rounds::generate;
+
+#[cfg(test)]
+mod tests;

@@ -8,13 +8,13 @@ use Rattle.task_lex.specs.declared.symbol.Symbol.TheVariants as sign
 use Rattle.task_syntax.specs.declared.expression.Expr.{Expr}
 use Rattle.task_syntax.specs.declared.expression.Expr.TheVariants as e
 use Rattle.task_parse.specs.Bars.{closes, opens}
-use Rattle.task_parse.specs.Climbs.{Climbs}
 use Rattle.task_parse.specs.Grammar as G
 use Rattle.task_parse.specs.Grammar.{Form, Reads}
 use Rattle.task_parse.specs.Lexeme.{Lexeme}
 use Rattle.task_parse.specs.Machine.{Part, Spot, Verdict, judge, verdict}
 use Rattle.task_parse.specs.Operators.{level, operator_of}
 use Rattle.task_parse.specs.Spots.{Below, first_operator, first_unary, is_at, is_at_name, moved, tail}
+use Rattle.task_parse.proofs.Climbs.{Climbs}
 
 -- a sign that is an operator is no bracket
 no_bracket : (x : Symbol) (o : Op) → operator_of x ≡ Some o

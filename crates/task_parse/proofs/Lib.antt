@@ -1,15 +1,16 @@
-pub mod Accepts
-pub mod Answering
-pub mod Completes
-pub mod Counted
-pub mod Examples
-pub mod Expressions
-pub mod Follow
-pub mod Lists
-pub mod OneAnswer
-pub mod OneTree
-pub mod Parts
-pub mod Places
-pub mod Same
-pub mod Steps
-pub mod Tuned
+mod Accepts
+mod Answering
+mod Climbs
+mod Completes
+mod Counted
+mod Examples
+mod Expressions
+mod Follow
+mod Lists
+mod OneAnswer
+mod OneTree
+mod Parts
+mod Places
+mod Same
+mod Steps
+mod Tuned

@@ -1,20 +1,23 @@
 -- The first fault that reading by a stack tells is the grammar's.
-use Rattle.std.proofs.Common.{◌≡◌, ◌+◌, ℕ, List, [], ◌∷◌, ◌++◌, length, append_assoc, append-nil, Bool, true, false, ◌&&◌, ◌||◌, nat_eq, cond, refl, ap, sym, ◌∙◌, subst, arith}
+use Rattle.std.proofs.Common.{◌≡◌, ◌+◌, ℕ, List, [], ◌∷◌, ◌++◌, length, append_assoc, Bool, true, false, ◌&&◌, ◌||◌, nat_eq, cond, refl, ap, sym, ◌∙◌, subst, arith}
 use Rattle.std.specs.Prelude.{Option, Some, None}
 use Rattle.task_syntax.specs.declared.program.Program.{Program}
-use Rattle.task_parse.specs.Answer.{Explains}
+use Rattle.task_parse.specs.Answer.{Explains, HasAnswer}
 use Rattle.task_parse.specs.Bars.{Scan, most_open, opens, shift, AreFree, is_barred, scan_from, scanned, start}
 use Rattle.task_parse.specs.Faults.{Breaks, FaultAt, DeepAt}
 use Rattle.task_parse.specs.Grammar.{Derives}
 use Rattle.task_parse.specs.Lexeme.{Lexeme}
-use Rattle.task_parse.specs.Machine.{Part, feed, are_optional, whole_parts, Verdict, judged, verdict, verdict_of, seen, told}
+use Rattle.task_parse.specs.Machine.{Part, feed, are_optional, whole_parts, Verdict, judged, verdict, seen, told}
 use Rattle.task_parse.specs.declared.fault.ParseFault.{ParseFault}
 use Rattle.task_parse.specs.declared.fault.ParseFault.TheVariants as fault
 use Rattle.task_parse.proofs.Accepts as A
 use Rattle.task_parse.proofs.Accepts.{accepts, accepts_next}
 use Rattle.task_parse.proofs.Completes.{Spelled, FedSound, feed_sound, ends, program_of, optional_spelled}
-use Rattle.task_parse.proofs.OneAnswer.{no_deep}
 use Rattle.task_parse.proofs.Tuned.{Tuned, Next, next}
+
+-- the first fault of a program's tokens
+abbrev pub verdict_of : List Lexeme → Verdict
+verdict_of list = verdict 0 0 list whole_parts
 
 -- the stack does not take what has been read so, or anything that goes on with the first of the rest
 abbrev pub Stuck : List Part → List Lexeme → List Lexeme → Type 0
@@ -149,19 +152,10 @@ explained list (fault.Syntax n) h = bad list n h
 explained list (fault.TooDeep n) h = deep list n h
 explained list fault.OutOfMemory h = tt
 
-stuck_all : (list before rest : List Lexeme) → list ≡ before ++ rest → Stuck whole_parts before rest → accepts list whole_parts ≡ false
-stuck_all list before [] h s = ap (λ w. accepts w whole_parts) (h ∙ append-nil before) ∙ s
-stuck_all list before (token ∷ rest) h s = ap (λ w. accepts w whole_parts) h ∙ s rest
-
-pub not_bad : (list : List Lexeme) (p : Program) (n : ℕ) → Derives list p → verdict_of list ≡ Verdict.Bad n → ⊥
-not_bad list p n d e =
-    let b = shown_whole list (Verdict.Bad n) e in
-    let h = A.program d in
-    let s = stuck_all list b.before b.rest b.split b.stuck in absurd (cc)
-
-pub accepted : (list : List Lexeme) (p : Program) → Derives list p → AreFree start list → verdict_of list ≡ Verdict.Fine
-accepted list p d a = by_verdict (verdict_of list) refl where
-  by_verdict : (v : Verdict) → verdict_of list ≡ v → v ≡ Verdict.Fine
-  by_verdict Verdict.Fine h = refl
-  by_verdict (Verdict.Bad n) h = absurd (not_bad list p n d h)
-  by_verdict (Verdict.Deep n) h = absurd (no_deep list n a (deep list n h))
+-- each list has an answer: what the stack tells of it
+pub answer : (list : List Lexeme) → HasAnswer list
+answer list = by_verdict (verdict_of list) refl where
+  by_verdict : (v : Verdict) → verdict_of list ≡ v → HasAnswer list
+  by_verdict Verdict.Fine h = let f = fine list h in HasAnswer.spelled f.1.0 f.1.1 f.0
+  by_verdict (Verdict.Bad n) h = HasAnswer.broken n (bad list n h)
+  by_verdict (Verdict.Deep n) h = HasAnswer.barred n (deep list n h)

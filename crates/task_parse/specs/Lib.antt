@@ -1,11 +1,11 @@
 pub mod Answer
 pub mod Bars
-pub mod Climbs
 pub mod Count
 pub mod Faults
 pub mod Grammar
 pub mod Lexeme
 pub mod Machine
 pub mod Operators
+pub mod Readings
 pub mod Spots
 pub mod View

@@ -1,5 +1,6 @@
 -- Reading token by token, with a stack of the parts that are still to come. It builds no tree and knows no levels; it tells
--- where the first fault of a list of tokens is.
+-- where the first fault of a list of tokens is. Only contracts inside this crate cite it: those that others see speak of
+-- the grammar alone.
 use Rattle.std.specs.Prelude.{ℕ, ◌+◌, ◌≡◌, List, [], ◌∷◌, ◌++◌, Bool, true, false, ◌&&◌, ◌||◌, cond, nat_eq, bytes_eq, is_some, Result, Option, Some, None, MatchResult}
 use Rattle.task_lex.specs.Spelling.{keyword_text, symbol_text}
 use Rattle.task_lex.specs.declared.keyword.Keyword.{Keyword}
@@ -223,10 +224,6 @@ abbrev pub verdict : ℕ → ℕ → List Lexeme → List Part → Verdict
 verdict at depth [] k = cond (are_optional k) Verdict.Fine (Verdict.Bad at)
 verdict at depth (token ∷ list) k =
     judged at (opens token && nat_eq depth most_open) (λ j. verdict (at + 1) (shift depth token) list j) (feed k token)
-
--- the first fault of a program's tokens
-abbrev pub verdict_of : List Lexeme → Verdict
-verdict_of list = verdict 0 0 list whole_parts
 
 -- where reading stands: the tokens left, the number of the first of them, and how many brackets are open
 pub record Spot : Type 0 where

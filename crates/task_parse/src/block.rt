@@ -1,10 +1,11 @@
 //! Blocks, and the statements that have them.
 
-ghost use Rattle.std.specs.Prelude.{◌≡◌, ◌<◌, ◌≤◌, ◌∷◌, [], false, length, IfOk, OnOk};
+ghost use Rattle.std.specs.Prelude.{◌≡◌, ◌∷◌, [], false};
 ghost use Rattle.task_lex.specs.declared.keyword.Keyword.TheVariants as keyword;
 ghost use Rattle.task_lex.specs.declared.symbol.Symbol.TheVariants as sign;
-ghost use Rattle.task_parse.specs.Grammar.{Form, Reads};
-ghost use Rattle.task_parse.specs.Machine.{Gives, Part, block_then, expression_then};
+ghost use Rattle.task_parse.specs.Grammar.{Form};
+ghost use Rattle.task_parse.specs.Machine.{Part, block_then, expression_then};
+ghost use Rattle.task_parse.specs.Readings.{HasRead, HasReadUpTo, MayRead};
 ghost use Rattle.task_parse.specs.Spots.{is_at};
 
 use crate::ParseFault;
@@ -19,10 +20,7 @@ use task_syntax::Stmt;
 /// Reads statements in braces.
 #[cycle(block)]
 pub(crate) fn block(alloc: Global, cursor: &mut Cursor<'_>) -> Result<Items<Stmt>, ParseFault>
-    ensures reads { IfOk result
-        (λ block. Reads (Form.Block block) cursor.old.rest cursor.new.rest) }
-    ensures gives { Gives cursor.old (block_then []) cursor.new (λ _. []) result }
-    ensures shrinks { OnOk result (length cursor.new.rest < length cursor.old.rest) }
+    ensures { HasRead Form.Block (block_then []) cursor.old cursor.new result }
 {
     cursor.open(Symbol::OpenBrace)?;
     let block = statements(alloc, cursor)?;
@@ -32,10 +30,7 @@ pub(crate) fn block(alloc: Global, cursor: &mut Cursor<'_>) -> Result<Items<Stmt
 /// Reads statements, and the brace that closes their block.
 #[cycle(block)]
 fn statements(alloc: Global, cursor: &mut Cursor<'_>) -> Result<Items<Stmt>, ParseFault>
-    ensures reads { IfOk result
-        (λ statements. Reads (Form.Rest statements) cursor.old.rest cursor.new.rest) }
-    ensures gives { Gives cursor.old (Part.Body ∷ []) cursor.new (λ _. []) result }
-    ensures shrinks { OnOk result (length cursor.new.rest < length cursor.old.rest) }
+    ensures { HasRead Form.Rest (Part.Body ∷ []) cursor.old cursor.new result }
 {
     let mut statements = Items::new(alloc);
     while !cursor.is_at(Symbol::CloseBrace) {
@@ -49,10 +44,8 @@ fn statements(alloc: Global, cursor: &mut Cursor<'_>) -> Result<Items<Stmt>, Par
 #[cycle(block)]
 fn statement(alloc: Global, cursor: &mut Cursor<'_>) -> Result<Stmt, ParseFault>
     requires { is_at sign.CloseBrace cursor.old.rest ≡ false }
-    ensures reads { IfOk result
-        (λ statement. Reads (Form.Statement statement) cursor.old.rest cursor.new.rest) }
-    ensures gives { Gives cursor.old (Part.Body ∷ []) cursor.new (λ _. Part.Body ∷ []) result }
-    ensures shrinks { OnOk result (length cursor.new.rest < length cursor.old.rest) }
+    ensures { HasReadUpTo Form.Statement (Part.Body ∷ []) (λ _. Part.Body ∷ [])
+        cursor.old cursor.new result }
 {
     match cursor.peek() {
         Some(TokenKind::Name) => assignment(alloc, cursor),
@@ -69,12 +62,9 @@ fn statement(alloc: Global, cursor: &mut Cursor<'_>) -> Result<Stmt, ParseFault>
 /// `if e { .. }`, and `else { .. }` where it follows.
 #[cycle(block)]
 fn choice(alloc: Global, cursor: &mut Cursor<'_>) -> Result<Stmt, ParseFault>
-    ensures reads { IfOk result
-        (λ statement. Reads (Form.Statement statement) cursor.old.rest cursor.new.rest) }
-    ensures gives { Gives cursor.old
+    ensures { HasRead Form.Statement
         (Part.Word keyword.If ∷ expression_then (block_then (Part.Otherwise ∷ [])))
-        cursor.new (λ _. []) result }
-    ensures shrinks { OnOk result (length cursor.new.rest < length cursor.old.rest) }
+        cursor.old cursor.new result }
 {
     cursor.word(Keyword::If)?;
     let condition = expression(alloc, cursor)?;
@@ -86,10 +76,7 @@ fn choice(alloc: Global, cursor: &mut Cursor<'_>) -> Result<Stmt, ParseFault>
 /// `else { .. }`, where it follows.
 #[cycle(block)]
 fn otherwise(alloc: Global, cursor: &mut Cursor<'_>) -> Result<Option<Items<Stmt>>, ParseFault>
-    ensures reads { IfOk result
-        (λ block. Reads (Form.Otherwise block) cursor.old.rest cursor.new.rest) }
-    ensures gives { Gives cursor.old (Part.Otherwise ∷ []) cursor.new (λ _. []) result }
-    ensures shrinks { OnOk result (length cursor.new.rest ≤ length cursor.old.rest) }
+    ensures { MayRead Form.Otherwise (Part.Otherwise ∷ []) cursor.old cursor.new result }
 {
     if !cursor.is_at_word(Keyword::Else) {
         return Ok(None);
@@ -102,12 +89,9 @@ fn otherwise(alloc: Global, cursor: &mut Cursor<'_>) -> Result<Option<Items<Stmt
 /// `repeat name < count { .. }`
 #[cycle(block)]
 fn repetition(alloc: Global, cursor: &mut Cursor<'_>) -> Result<Stmt, ParseFault>
-    ensures reads { IfOk result
-        (λ statement. Reads (Form.Statement statement) cursor.old.rest cursor.new.rest) }
-    ensures gives { Gives cursor.old
+    ensures { HasRead Form.Statement
         (Part.Word keyword.Repeat ∷ Part.AName ∷ Part.Sign sign.Below ∷ Part.ANumber ∷ block_then [])
-        cursor.new (λ _. []) result }
-    ensures shrinks { OnOk result (length cursor.new.rest < length cursor.old.rest) }
+        cursor.old cursor.new result }
 {
     cursor.word(Keyword::Repeat)?;
     let name = cursor.name(alloc)?;

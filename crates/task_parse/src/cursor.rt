@@ -1,8 +1,9 @@
-ghost use Rattle.std.specs.Prelude.{◌≡◌, ◌^◌, ◌<◌, ◌≤◌, ◌∷◌, [], length, true, false, All, IfOk, OnOk};
+ghost use Rattle.std.specs.Prelude.{◌≡◌, ◌^◌, ◌<◌, ◌≤◌, length, true, false, All};
 ghost use Rattle.task_lex.specs.Span.{IsTokenOf};
 ghost use Rattle.task_parse.specs.Bars.{closes, most_open, opens};
 ghost use Rattle.task_parse.specs.Lexeme.{Lexeme, lexemes};
-ghost use Rattle.task_parse.specs.Machine.{Gives, Part};
+ghost use Rattle.task_parse.specs.Machine.{Part};
+ghost use Rattle.task_parse.specs.Readings.{HasToken};
 ghost use Rattle.task_parse.specs.Spots.{first_kind, first_operator, first_unary, is_at, is_at_name, is_at_word, is_name, is_sign, is_word, moved, none_left};
 ghost use Rattle.task_parse.specs.declared.fault.ParseFault.TheVariants as fault;
 
@@ -163,9 +164,7 @@ impl<'a> Cursor<'a> {
 
     /// Reads this word, and gives its place.
     pub(crate) fn word(&mut self, wanted: Keyword) -> Result<u32, ParseFault>
-        ensures reads { IfOk result (λ at. self.old.rest ≡ Lexeme.word wanted at ∷ self.new.rest) }
-        ensures gives { Gives self.old (Part.Word wanted ∷ []) self.new (λ _. []) result }
-        ensures shrinks { OnOk result (length self.new.rest < length self.old.rest) }
+        ensures { HasToken (Lexeme.word wanted) (Part.Word wanted) self.old self.new result }
     {
         match self.left {
             [token, ..] if is_word(token.kind, wanted) => {
@@ -181,9 +180,7 @@ impl<'a> Cursor<'a> {
     pub(crate) fn sign(&mut self, wanted: Symbol) -> Result<(), ParseFault>
         requires closed { opens (Lexeme.sign wanted) ≡ false }
         requires open { closes (Lexeme.sign wanted) ≡ false }
-        ensures reads { OnOk result (self.old.rest ≡ Lexeme.sign wanted ∷ self.new.rest) }
-        ensures gives { Gives self.old (Part.Sign wanted ∷ []) self.new (λ _. []) result }
-        ensures shrinks { OnOk result (length self.new.rest < length self.old.rest) }
+        ensures { HasToken (λ _. Lexeme.sign wanted) (Part.Sign wanted) self.old self.new result }
     {
         if !self.is_at(wanted) {
             return Err(self.misplaced());
@@ -195,9 +192,7 @@ impl<'a> Cursor<'a> {
     /// Reads this bracket, which opens.
     pub(crate) fn open(&mut self, wanted: Symbol) -> Result<(), ParseFault>
         requires { opens (Lexeme.sign wanted) ≡ true }
-        ensures reads { OnOk result (self.old.rest ≡ Lexeme.sign wanted ∷ self.new.rest) }
-        ensures gives { Gives self.old (Part.Sign wanted ∷ []) self.new (λ _. []) result }
-        ensures shrinks { OnOk result (length self.new.rest < length self.old.rest) }
+        ensures { HasToken (λ _. Lexeme.sign wanted) (Part.Sign wanted) self.old self.new result }
     {
         if !self.is_at(wanted) {
             return Err(self.misplaced());
@@ -213,9 +208,7 @@ impl<'a> Cursor<'a> {
     pub(crate) fn close(&mut self, wanted: Symbol) -> Result<(), ParseFault>
         requires closed { opens (Lexeme.sign wanted) ≡ false }
         requires closes { closes (Lexeme.sign wanted) ≡ true }
-        ensures reads { OnOk result (self.old.rest ≡ Lexeme.sign wanted ∷ self.new.rest) }
-        ensures gives { Gives self.old (Part.Sign wanted ∷ []) self.new (λ _. []) result }
-        ensures shrinks { OnOk result (length self.new.rest < length self.old.rest) }
+        ensures { HasToken (λ _. Lexeme.sign wanted) (Part.Sign wanted) self.old self.new result }
     {
         if !self.is_at(wanted) {
             return Err(self.misplaced());
@@ -226,9 +219,7 @@ impl<'a> Cursor<'a> {
 
     /// Reads a name.
     pub(crate) fn name(&mut self, alloc: Global) -> Result<Name, ParseFault>
-        ensures reads { IfOk result (λ name. self.old.rest ≡ Lexeme.name name ∷ self.new.rest) }
-        ensures gives { Gives self.old (Part.AName ∷ []) self.new (λ _. []) result }
-        ensures shrinks { OnOk result (length self.new.rest < length self.old.rest) }
+        ensures { HasToken Lexeme.name Part.AName self.old self.new result }
     {
         match self.left {
             [token, ..] if is_name(token.kind) => {
@@ -245,10 +236,7 @@ impl<'a> Cursor<'a> {
 
     /// Reads a number.
     pub(crate) fn number(&mut self) -> Result<Number, ParseFault>
-        ensures reads { IfOk result
-            (λ n. self.old.rest ≡ Lexeme.number n.value n.at ∷ self.new.rest) }
-        ensures gives { Gives self.old (Part.ANumber ∷ []) self.new (λ _. []) result }
-        ensures shrinks { OnOk result (length self.new.rest < length self.old.rest) }
+        ensures { HasToken (λ n. Lexeme.number n.value n.at) Part.ANumber self.old self.new result }
     {
         match self.left {
             [token, ..] => match token.kind {

@@ -1,11 +1,12 @@
 //! Variables and the buffer.
 
-ghost use Rattle.std.specs.Prelude.{◌≢◌, ◌<◌, ◌≤◌, ◌∷◌, [], length, IfOk, OnOk};
+ghost use Rattle.std.specs.Prelude.{◌≢◌, ◌∷◌, [], IfOk};
 ghost use Rattle.task_lex.specs.declared.keyword.Keyword.TheVariants as keyword;
 ghost use Rattle.task_lex.specs.declared.symbol.Symbol.TheVariants as sign;
-ghost use Rattle.task_parse.specs.Grammar.{Form, Reads};
+ghost use Rattle.task_parse.specs.Grammar.{Form};
 ghost use Rattle.task_parse.specs.Lexeme.{Lexeme};
-ghost use Rattle.task_parse.specs.Machine.{Gives, Part, variable_then};
+ghost use Rattle.task_parse.specs.Machine.{Part, variable_then};
+ghost use Rattle.task_parse.specs.Readings.{HasRead, HasReadWithin, MayRead};
 ghost use Rattle.task_syntax.specs.declared.program.Init.TheVariants as init;
 
 use crate::ParseFault;
@@ -17,12 +18,10 @@ use task_syntax::{Init, Number, Var};
 
 /// Reads one variable or more.
 pub(crate) fn variables(alloc: Global, cursor: &mut Cursor<'_>) -> Result<Items<Var>, ParseFault>
-    ensures reads { IfOk result
-        (λ vars. Reads (Form.Variables vars) cursor.old.rest cursor.new.rest) }
-    ensures some { IfOk result (λ vars. vars ≢ []) }
-    ensures gives { Gives cursor.old
+    ensures read { HasRead Form.Variables
         (Part.Word keyword.Nv ∷ variable_then (Part.Variables ∷ []))
-        cursor.new (λ _. []) result }
+        cursor.old cursor.new result }
+    ensures some { IfOk result (λ vars. vars ≢ []) }
 {
     let mut vars = Items::new(alloc);
     let first = variable(alloc, cursor)?;
@@ -36,11 +35,9 @@ pub(crate) fn variables(alloc: Global, cursor: &mut Cursor<'_>) -> Result<Items<
 
 /// `nv name[length] = init;`, with or without a length and values.
 fn variable(alloc: Global, cursor: &mut Cursor<'_>) -> Result<Var, ParseFault>
-    ensures reads { IfOk result (λ var. Reads (Form.Variable var) cursor.old.rest cursor.new.rest) }
-    ensures gives { Gives cursor.old
+    ensures { HasRead Form.Variable
         (Part.Word keyword.Nv ∷ variable_then [])
-        cursor.new (λ _. []) result }
-    ensures shrinks { OnOk result (length cursor.new.rest < length cursor.old.rest) }
+        cursor.old cursor.new result }
 {
     cursor.word(Keyword::Nv)?;
     let name = cursor.name(alloc)?;
@@ -52,9 +49,7 @@ fn variable(alloc: Global, cursor: &mut Cursor<'_>) -> Result<Var, ParseFault>
 
 /// `[length]`, where it follows.
 fn array_length(cursor: &mut Cursor<'_>) -> Result<Option<u16>, ParseFault>
-    ensures reads { IfOk result (λ len. Reads (Form.Length len) cursor.old.rest cursor.new.rest) }
-    ensures gives { Gives cursor.old (Part.Length ∷ []) cursor.new (λ _. []) result }
-    ensures shrinks { OnOk result (length cursor.new.rest ≤ length cursor.old.rest) }
+    ensures { MayRead Form.Length (Part.Length ∷ []) cursor.old cursor.new result }
 {
     if !cursor.is_at(Symbol::OpenBracket) {
         return Ok(None);
@@ -67,10 +62,7 @@ fn array_length(cursor: &mut Cursor<'_>) -> Result<Option<u16>, ParseFault>
 
 /// `= value` or `= { value, .. }`, where it follows.
 fn init(alloc: Global, cursor: &mut Cursor<'_>) -> Result<Init, ParseFault>
-    ensures reads { IfOk result
-        (λ given. Reads (Form.Given given) cursor.old.rest cursor.new.rest) }
-    ensures gives { Gives cursor.old (Part.Given ∷ []) cursor.new (λ _. []) result }
-    ensures shrinks { OnOk result (length cursor.new.rest ≤ length cursor.old.rest) }
+    ensures { MayRead Form.Given (Part.Given ∷ []) cursor.old cursor.new result }
 {
     if !cursor.is_at(Symbol::Assign) {
         return Ok(Init::None);
@@ -86,12 +78,10 @@ fn init(alloc: Global, cursor: &mut Cursor<'_>) -> Result<Init, ParseFault>
 
 /// `{ value, .. }`, with one value or more.
 fn values(alloc: Global, cursor: &mut Cursor<'_>) -> Result<Items<u16>, ParseFault>
-    ensures reads { IfOk result
-        (λ values. Reads (Form.Given (init.Many values)) (Lexeme.sign sign.Assign ∷ cursor.old.rest) cursor.new.rest) }
-    ensures gives { Gives cursor.old
+    ensures { HasReadWithin (Lexeme.sign sign.Assign ∷ []) []
+        (λ values. Form.Given (init.Many values))
         (Part.Sign sign.OpenBrace ∷ Part.ANumber ∷ Part.Numbers ∷ Part.Sign sign.CloseBrace ∷ [])
-        cursor.new (λ _. []) result }
-    ensures shrinks { OnOk result (length cursor.new.rest ≤ length cursor.old.rest) }
+        cursor.old cursor.new result }
 {
     cursor.open(Symbol::OpenBrace)?;
     let mut values = Items::new(alloc);
@@ -108,8 +98,7 @@ fn values(alloc: Global, cursor: &mut Cursor<'_>) -> Result<Items<u16>, ParseFau
 
 /// `buffer number;`, where it follows.
 pub(crate) fn buffer(cursor: &mut Cursor<'_>) -> Result<Option<Number>, ParseFault>
-    ensures reads { IfOk result (λ size. Reads (Form.Buffer size) cursor.old.rest cursor.new.rest) }
-    ensures gives { Gives cursor.old (Part.Buffer ∷ []) cursor.new (λ _. []) result }
+    ensures { MayRead Form.Buffer (Part.Buffer ∷ []) cursor.old cursor.new result }
 {
     if !cursor.is_at_word(Keyword::Buffer) {
         return Ok(None);

@@ -1,9 +1,10 @@
 //! Events.
 
-ghost use Rattle.std.specs.Prelude.{◌<◌, ◌≤◌, ◌∷◌, [], length, IfOk, OnOk};
+ghost use Rattle.std.specs.Prelude.{◌∷◌, []};
 ghost use Rattle.task_lex.specs.declared.keyword.Keyword.TheVariants as keyword;
-ghost use Rattle.task_parse.specs.Grammar.{Form, Reads};
-ghost use Rattle.task_parse.specs.Machine.{Gives, Part, event_then};
+ghost use Rattle.task_parse.specs.Grammar.{Form};
+ghost use Rattle.task_parse.specs.Machine.{Part, event_then};
+ghost use Rattle.task_parse.specs.Readings.{HasRead, MayRead};
 
 use crate::ParseFault;
 use crate::block::block;
@@ -15,9 +16,7 @@ use task_syntax::{Event, Name};
 
 /// Reads any number of events.
 pub(crate) fn events(alloc: Global, cursor: &mut Cursor<'_>) -> Result<Items<Event>, ParseFault>
-    ensures reads { IfOk result
-        (λ events. Reads (Form.Events events) cursor.old.rest cursor.new.rest) }
-    ensures gives { Gives cursor.old (Part.Events ∷ []) cursor.new (λ _. []) result }
+    ensures { MayRead Form.Events (Part.Events ∷ []) cursor.old cursor.new result }
 {
     let mut events = Items::new(alloc);
     while cursor.is_at_word(Keyword::Event) {
@@ -29,12 +28,9 @@ pub(crate) fn events(alloc: Global, cursor: &mut Cursor<'_>) -> Result<Items<Eve
 
 /// `event name(argument) { top { .. } bottom(..) { .. } }`
 fn event(alloc: Global, cursor: &mut Cursor<'_>) -> Result<Event, ParseFault>
-    ensures reads { IfOk result
-        (λ event. Reads (Form.OneEvent event) cursor.old.rest cursor.new.rest) }
-    ensures gives { Gives cursor.old
+    ensures { HasRead Form.OneEvent
         (Part.Word keyword.Event ∷ event_then [])
-        cursor.new (λ _. []) result }
-    ensures shrinks { OnOk result (length cursor.new.rest < length cursor.old.rest) }
+        cursor.old cursor.new result }
 {
     cursor.word(Keyword::Event)?;
     let name = cursor.name(alloc)?;
@@ -61,10 +57,7 @@ fn event(alloc: Global, cursor: &mut Cursor<'_>) -> Result<Event, ParseFault>
 
 /// Reads names with commas between them, or none.
 fn parameters(alloc: Global, cursor: &mut Cursor<'_>) -> Result<Items<Name>, ParseFault>
-    ensures reads { IfOk result
-        (λ params. Reads (Form.Params params) cursor.old.rest cursor.new.rest) }
-    ensures gives { Gives cursor.old (Part.Params ∷ []) cursor.new (λ _. []) result }
-    ensures shrinks { OnOk result (length cursor.new.rest ≤ length cursor.old.rest) }
+    ensures { MayRead Form.Params (Part.Params ∷ []) cursor.old cursor.new result }
 {
     let mut params = Items::new(alloc);
     if !cursor.is_at_name() {

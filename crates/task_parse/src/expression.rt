@@ -1,10 +1,11 @@
 //! Expressions, by precedence climbing.
 
-ghost use Rattle.std.specs.Prelude.{◌≡◌, ◌≤◌, ◌<◌, ◌∷◌, [], length, IfOk, OnOk, Some, MatchOption};
+ghost use Rattle.std.specs.Prelude.{◌≡◌, ◌≤◌, ◌∷◌, [], IfOk, Some, MatchOption};
 ghost use Rattle.task_parse.specs.Bars.{most_operators};
-ghost use Rattle.task_parse.specs.Grammar.{Form, Reads};
-ghost use Rattle.task_parse.specs.Machine.{Gives, Part};
+ghost use Rattle.task_parse.specs.Grammar.{Form};
+ghost use Rattle.task_parse.specs.Machine.{Part};
 ghost use Rattle.task_parse.specs.Operators.{level as level_of_op};
+ghost use Rattle.task_parse.specs.Readings.{HasRead, HasReadUpTo};
 ghost use Rattle.task_parse.specs.Spots.{Below, first_operator};
 ghost use Rattle.task_lex.specs.declared.symbol.Symbol.TheVariants as sign;
 ghost use Rattle.task_syntax.specs.declared.expression.Expr.TheVariants.{One, Two};
@@ -22,9 +23,9 @@ use task_syntax::{Expr, Place};
 /// Reads an expression.
 #[cycle(expression)]
 pub(crate) fn expression(alloc: Global, cursor: &mut Cursor<'_>) -> Result<Expr, ParseFault>
-    ensures reads { IfOk result (λ x. Reads (Form.Level 0 x) cursor.old.rest cursor.new.rest) }
-    ensures gives { Gives cursor.old (Part.Operand ∷ Part.Ops 0 ∷ []) cursor.new (λ _. []) result }
-    ensures shrinks { OnOk result (length cursor.new.rest < length cursor.old.rest) }
+    ensures { HasRead (Form.Level 0)
+        (Part.Operand ∷ Part.Ops 0 ∷ [])
+        cursor.old cursor.new result }
 {
     let (value, _) = level(alloc, cursor, 0, 0)?;
     Ok(value)
@@ -41,14 +42,11 @@ fn level(
 ) -> Result<(Expr, usize), ParseFault>
     requires few { operators ≤ most_operators }
     requires low { least ≤ 8 }
-    ensures reads { IfOk result
-        (λ read. Reads (Form.Level least read.0) cursor.old.rest cursor.new.rest) }
+    ensures read { HasReadUpTo (λ read. Form.Level least read.0)
+        (Part.Operand ∷ Part.Ops operators ∷ []) (λ read. Part.Ops read.1 ∷ [])
+        cursor.old cursor.new result }
     ensures below { IfOk result (λ _. Below least cursor.new.rest) }
     ensures few { IfOk result (λ read. read.1 ≤ most_operators) }
-    ensures gives { Gives cursor.old
-        (Part.Operand ∷ Part.Ops operators ∷ [])
-        cursor.new (λ read. Part.Ops read.1 ∷ []) result }
-    ensures shrinks { OnOk result (length cursor.new.rest < length cursor.old.rest) }
 {
     let mut left = operand(alloc, cursor)?;
     let mut count = operators;
@@ -76,9 +74,7 @@ fn operator(cursor: &Cursor<'_>, least: u8) -> Option<Op>
 /// Reads a primary, and the unary operator before it where one comes next.
 #[cycle(expression)]
 fn operand(alloc: Global, cursor: &mut Cursor<'_>) -> Result<Expr, ParseFault>
-    ensures reads { IfOk result (λ x. Reads (Form.Operand x) cursor.old.rest cursor.new.rest) }
-    ensures gives { Gives cursor.old (Part.Operand ∷ []) cursor.new (λ _. []) result }
-    ensures shrinks { OnOk result (length cursor.new.rest < length cursor.old.rest) }
+    ensures { HasRead Form.Operand (Part.Operand ∷ []) cursor.old cursor.new result }
 {
     match cursor.unary() {
         Some(op) => {
@@ -93,9 +89,7 @@ fn operand(alloc: Global, cursor: &mut Cursor<'_>) -> Result<Expr, ParseFault>
 /// Reads a number, a place, or an expression in parentheses.
 #[cycle(expression)]
 fn primary(alloc: Global, cursor: &mut Cursor<'_>) -> Result<Expr, ParseFault>
-    ensures reads { IfOk result (λ x. Reads (Form.Primary x) cursor.old.rest cursor.new.rest) }
-    ensures gives { Gives cursor.old (Part.Primary ∷ []) cursor.new (λ _. []) result }
-    ensures shrinks { OnOk result (length cursor.new.rest < length cursor.old.rest) }
+    ensures { HasRead Form.Primary (Part.Primary ∷ []) cursor.old cursor.new result }
 {
     if cursor.is_at_name() {
         let place = place(alloc, cursor)?;
@@ -110,11 +104,9 @@ fn primary(alloc: Global, cursor: &mut Cursor<'_>) -> Result<Expr, ParseFault>
 
 #[cycle(expression)]
 fn parentheses(alloc: Global, cursor: &mut Cursor<'_>) -> Result<Expr, ParseFault>
-    ensures reads { IfOk result (λ x. Reads (Form.Primary x) cursor.old.rest cursor.new.rest) }
-    ensures gives { Gives cursor.old
+    ensures { HasRead Form.Primary
         (Part.Sign sign.OpenParen ∷ Part.Operand ∷ Part.Ops 0 ∷ Part.Sign sign.CloseParen ∷ [])
-        cursor.new (λ _. []) result }
-    ensures shrinks { OnOk result (length cursor.new.rest < length cursor.old.rest) }
+        cursor.old cursor.new result }
 {
     cursor.open(Symbol::OpenParen)?;
     let value = expression(alloc, cursor)?;
@@ -125,9 +117,7 @@ fn parentheses(alloc: Global, cursor: &mut Cursor<'_>) -> Result<Expr, ParseFaul
 /// Reads a name, and an index in brackets where one follows.
 #[cycle(expression)]
 pub(crate) fn place(alloc: Global, cursor: &mut Cursor<'_>) -> Result<Place, ParseFault>
-    ensures reads { IfOk result (λ p. Reads (Form.Target p) cursor.old.rest cursor.new.rest) }
-    ensures gives { Gives cursor.old (Part.AName ∷ Part.Index ∷ []) cursor.new (λ _. []) result }
-    ensures shrinks { OnOk result (length cursor.new.rest < length cursor.old.rest) }
+    ensures { HasRead Form.Target (Part.AName ∷ Part.Index ∷ []) cursor.old cursor.new result }
 {
     let name = cursor.name(alloc)?;
     if !cursor.is_at(Symbol::OpenBracket) {

@@ -1,17 +1,14 @@
 //! What the definitions of programs and faults come to: each function's contract is a law, and its body is empty.
 
-ghost use Rattle.std.specs.Prelude.{◌≡◌, ◌≢◌, ℕ, true, false, List};
-ghost use Rattle.task_parse.specs.Answer.{Explains};
+ghost use Rattle.std.specs.Prelude.{◌≡◌, ℕ, true, false, List};
+ghost use Rattle.task_parse.specs.Answer.{HasAnswer};
 ghost use Rattle.task_parse.specs.Bars.{AreFree, Scan, scanned, start};
 ghost use Rattle.task_parse.specs.Count.{Counts, IsFresh, begins_expression, operators};
 ghost use Rattle.task_parse.specs.Faults.{DeepAt, FaultAt};
 ghost use Rattle.task_parse.specs.Grammar.{Derives, Form, Reads};
 ghost use Rattle.task_parse.specs.Lexeme.{Lexeme};
-ghost use Rattle.task_parse.specs.Machine.{Verdict, seen, told, verdict_of};
 ghost use Rattle.task_syntax.specs.declared.expression.Expr.{Expr};
 ghost use Rattle.task_syntax.specs.declared.program.Program.{Program};
-
-use crate::ParseFault;
 
 /// A list of tokens is at most one program.
 pub fn a_list_is_one_program()
@@ -19,26 +16,10 @@ pub fn a_list_is_one_program()
         → Derives list program → Derives list other → program ≡ other }
 {}
 
-/// What reading by a stack tells of a list of tokens is the list's first fault.
-pub fn the_first_fault_is_told()
-    ensures bad { (list : List Lexeme) (n : ℕ) → verdict_of list ≡ Verdict.Bad n → FaultAt list n }
-    ensures deep { (list : List Lexeme) (n : ℕ) → verdict_of list ≡ Verdict.Deep n → DeepAt list n }
-    ensures free { (list : List Lexeme) → verdict_of list ≡ Verdict.Fine → AreFree start list }
-    ensures program { (list : List Lexeme) → verdict_of list ≡ Verdict.Fine → (program : Program) × Derives list program }
-    ensures told { (list : List Lexeme) (fault : ParseFault)
-        → seen fault (verdict_of list) ≡ told fault → Explains list fault }
-{}
-
-/// A list of tokens that is a program goes through the stack, but for tokens that are barred.
-pub fn programs_are_accepted()
-    ensures accepted { (list : List Lexeme) (program : Program) (n : ℕ)
-        → Derives list program → verdict_of list ≢ Verdict.Bad n }
-    ensures free { (list : List Lexeme) (program : Program)
-        → Derives list program → AreFree start list → verdict_of list ≡ Verdict.Fine }
-{}
-
-/// A list of tokens has at most one first fault, of one kind, and a program has none.
+/// A list of tokens is a program of which no token is barred, or it has a first fault, of one kind and at one place. It
+/// never is both.
 pub fn each_list_has_one_answer()
+    ensures some { (list : List Lexeme) → HasAnswer list }
     ensures faults { (list : List Lexeme) (n m : ℕ) → FaultAt list n → FaultAt list m → n ≡ m }
     ensures deeps { (list : List Lexeme) (n m : ℕ) → DeepAt list n → DeepAt list m → n ≡ m }
     ensures apart { (list : List Lexeme) (n m : ℕ) → FaultAt list n → DeepAt list m → ⊥ }

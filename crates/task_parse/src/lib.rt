@@ -14,10 +14,7 @@ mod statement;
 mod unit;
 
 pub use fault::ParseFault;
-pub use laws::{
-    a_list_is_one_program, each_list_has_one_answer, operators_are_counted, programs_are_accepted,
-    the_first_fault_is_told,
-};
+pub use laws::{a_list_is_one_program, each_list_has_one_answer, operators_are_counted};
 pub use program::parse;
 
 #[cfg(test)]

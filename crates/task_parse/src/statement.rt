@@ -1,11 +1,12 @@
 //! Statements that have no block.
 
-ghost use Rattle.std.specs.Prelude.{◌<◌, ◌∷◌, [], length, IfOk, OnOk};
+ghost use Rattle.std.specs.Prelude.{◌∷◌, []};
 ghost use Rattle.task_lex.specs.declared.keyword.Keyword.TheVariants as keyword;
 ghost use Rattle.task_lex.specs.declared.symbol.Symbol.TheVariants as sign;
-ghost use Rattle.task_parse.specs.Grammar.{Form, Reads};
+ghost use Rattle.task_parse.specs.Grammar.{Form};
 ghost use Rattle.task_parse.specs.Lexeme.{Lexeme};
-ghost use Rattle.task_parse.specs.Machine.{Gives, Part, expression_then};
+ghost use Rattle.task_parse.specs.Machine.{Part, expression_then};
+ghost use Rattle.task_parse.specs.Readings.{HasRead, HasReadWithin};
 
 use crate::ParseFault;
 use crate::cursor::Cursor;
@@ -17,12 +18,9 @@ use task_syntax::{Expr, Stmt};
 
 /// `place = e;`
 pub(crate) fn assignment(alloc: Global, cursor: &mut Cursor<'_>) -> Result<Stmt, ParseFault>
-    ensures reads { IfOk result
-        (λ statement. Reads (Form.Statement statement) cursor.old.rest cursor.new.rest) }
-    ensures gives { Gives cursor.old
+    ensures { HasRead Form.Statement
         (Part.AName ∷ Part.Index ∷ Part.Sign sign.Assign ∷ expression_then (Part.Sign sign.Semicolon ∷ []))
-        cursor.new (λ _. []) result }
-    ensures shrinks { OnOk result (length cursor.new.rest < length cursor.old.rest) }
+        cursor.old cursor.new result }
 {
     let place = place(alloc, cursor)?;
     cursor.sign(Symbol::Assign)?;
@@ -33,12 +31,9 @@ pub(crate) fn assignment(alloc: Global, cursor: &mut Cursor<'_>) -> Result<Stmt,
 
 /// `let name = e;`
 pub(crate) fn local(alloc: Global, cursor: &mut Cursor<'_>) -> Result<Stmt, ParseFault>
-    ensures reads { IfOk result
-        (λ statement. Reads (Form.Statement statement) cursor.old.rest cursor.new.rest) }
-    ensures gives { Gives cursor.old
+    ensures { HasRead Form.Statement
         (Part.Word keyword.Let ∷ Part.AName ∷ Part.Sign sign.Assign ∷ expression_then (Part.Sign sign.Semicolon ∷ []))
-        cursor.new (λ _. []) result }
-    ensures shrinks { OnOk result (length cursor.new.rest < length cursor.old.rest) }
+        cursor.old cursor.new result }
 {
     cursor.word(Keyword::Let)?;
     let name = cursor.name(alloc)?;
@@ -50,12 +45,9 @@ pub(crate) fn local(alloc: Global, cursor: &mut Cursor<'_>) -> Result<Stmt, Pars
 
 /// `next name;`
 pub(crate) fn next(alloc: Global, cursor: &mut Cursor<'_>) -> Result<Stmt, ParseFault>
-    ensures reads { IfOk result
-        (λ statement. Reads (Form.Statement statement) cursor.old.rest cursor.new.rest) }
-    ensures gives { Gives cursor.old
+    ensures { HasRead Form.Statement
         (Part.Word keyword.Next ∷ Part.AName ∷ Part.Sign sign.Semicolon ∷ [])
-        cursor.new (λ _. []) result }
-    ensures shrinks { OnOk result (length cursor.new.rest < length cursor.old.rest) }
+        cursor.old cursor.new result }
 {
     cursor.word(Keyword::Next)?;
     let name = cursor.name(alloc)?;
@@ -65,12 +57,8 @@ pub(crate) fn next(alloc: Global, cursor: &mut Cursor<'_>) -> Result<Stmt, Parse
 
 /// `halt;`
 pub(crate) fn halt(cursor: &mut Cursor<'_>) -> Result<Stmt, ParseFault>
-    ensures reads { IfOk result
-        (λ statement. Reads (Form.Statement statement) cursor.old.rest cursor.new.rest) }
-    ensures gives { Gives cursor.old
-        (Part.Word keyword.Halt ∷ Part.Sign sign.Semicolon ∷ [])
-        cursor.new (λ _. []) result }
-    ensures shrinks { OnOk result (length cursor.new.rest < length cursor.old.rest) }
+    ensures { HasRead Form.Statement
+        (Part.Word keyword.Halt ∷ Part.Sign sign.Semicolon ∷ []) cursor.old cursor.new result }
 {
     let at = cursor.word(Keyword::Halt)?;
     cursor.sign(Symbol::Semicolon)?;
@@ -79,12 +67,9 @@ pub(crate) fn halt(cursor: &mut Cursor<'_>) -> Result<Stmt, ParseFault>
 
 /// `give e, e;`, of any number of expressions.
 pub(crate) fn give(alloc: Global, cursor: &mut Cursor<'_>) -> Result<Stmt, ParseFault>
-    ensures reads { IfOk result
-        (λ statement. Reads (Form.Statement statement) cursor.old.rest cursor.new.rest) }
-    ensures gives { Gives cursor.old
+    ensures { HasRead Form.Statement
         (Part.Word keyword.Give ∷ Part.Values ∷ Part.Sign sign.Semicolon ∷ [])
-        cursor.new (λ _. []) result }
-    ensures shrinks { OnOk result (length cursor.new.rest < length cursor.old.rest) }
+        cursor.old cursor.new result }
 {
     let at = cursor.word(Keyword::Give)?;
     let values = values(alloc, cursor)?;
@@ -93,12 +78,9 @@ pub(crate) fn give(alloc: Global, cursor: &mut Cursor<'_>) -> Result<Stmt, Parse
 
 /// Reads expressions with commas between them, or none, and the semicolon behind them.
 fn values(alloc: Global, cursor: &mut Cursor<'_>) -> Result<Items<Expr>, ParseFault>
-    ensures reads { IfOk result
-        (λ values. Reads (Form.Values values) cursor.old.rest (Lexeme.sign sign.Semicolon ∷ cursor.new.rest)) }
-    ensures gives { Gives cursor.old
+    ensures { HasReadWithin [] (Lexeme.sign sign.Semicolon ∷ []) Form.Values
         (Part.Values ∷ Part.Sign sign.Semicolon ∷ [])
-        cursor.new (λ _. []) result }
-    ensures shrinks { OnOk result (length cursor.new.rest < length cursor.old.rest) }
+        cursor.old cursor.new result }
 {
     let mut values = Items::new(alloc);
     if cursor.is_at(Symbol::Semicolon) {

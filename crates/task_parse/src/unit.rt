@@ -1,9 +1,10 @@
 //! Tasks and transactions.
 
-ghost use Rattle.std.specs.Prelude.{◌≢◌, ◌<◌, ◌∷◌, [], length, IfOk, OnOk};
+ghost use Rattle.std.specs.Prelude.{◌≢◌, ◌∷◌, [], IfOk};
 ghost use Rattle.task_lex.specs.declared.keyword.Keyword.TheVariants as keyword;
 ghost use Rattle.task_parse.specs.Grammar.{Form, Reads};
-ghost use Rattle.task_parse.specs.Machine.{Gives, Part, task_then, transaction_then};
+ghost use Rattle.task_parse.specs.Machine.{Part, task_then, transaction_then};
+ghost use Rattle.task_parse.specs.Readings.{HasRead};
 ghost use Rattle.task_parse.specs.Spots.{Ends};
 ghost use Rattle.task_syntax.specs.declared.program.UnitDecl.TheVariants as unit;
 
@@ -32,10 +33,7 @@ pub(crate) fn units(alloc: Global, cursor: &mut Cursor<'_>) -> Result<Items<Unit
 }
 
 fn unit(alloc: Global, cursor: &mut Cursor<'_>) -> Result<UnitDecl, ParseFault>
-    ensures reads { IfOk result
-        (λ unit. Reads (Form.OneUnit unit) cursor.old.rest cursor.new.rest) }
-    ensures gives { Gives cursor.old (Part.AUnit ∷ []) cursor.new (λ _. []) result }
-    ensures shrinks { OnOk result (length cursor.new.rest < length cursor.old.rest) }
+    ensures { HasRead Form.OneUnit (Part.AUnit ∷ []) cursor.old cursor.new result }
 {
     if cursor.is_at_word(Keyword::Transaction) {
         let tx = transaction(alloc, cursor)?;
@@ -48,12 +46,9 @@ fn unit(alloc: Global, cursor: &mut Cursor<'_>) -> Result<UnitDecl, ParseFault>
 
 /// `transaction name { task .. }`
 fn transaction(alloc: Global, cursor: &mut Cursor<'_>) -> Result<TxDecl, ParseFault>
-    ensures reads { IfOk result
-        (λ tx. Reads (Form.OneUnit (unit.Tx tx)) cursor.old.rest cursor.new.rest) }
-    ensures gives { Gives cursor.old
+    ensures { HasRead (λ tx. Form.OneUnit (unit.Tx tx))
         (Part.Word keyword.Transaction ∷ transaction_then [])
-        cursor.new (λ _. []) result }
-    ensures shrinks { OnOk result (length cursor.new.rest < length cursor.old.rest) }
+        cursor.old cursor.new result }
 {
     cursor.word(Keyword::Transaction)?;
     let name = cursor.name(alloc)?;
@@ -65,13 +60,10 @@ fn transaction(alloc: Global, cursor: &mut Cursor<'_>) -> Result<TxDecl, ParseFa
 
 /// Reads one task or more.
 fn tasks(alloc: Global, cursor: &mut Cursor<'_>) -> Result<Items<TaskDecl>, ParseFault>
-    ensures reads { IfOk result
-        (λ tasks. Reads (Form.Tasks tasks) cursor.old.rest cursor.new.rest) }
-    ensures some { IfOk result (λ tasks. tasks ≢ []) }
-    ensures gives { Gives cursor.old
+    ensures read { HasRead Form.Tasks
         (Part.Word keyword.Task ∷ task_then (Part.Members ∷ []))
-        cursor.new (λ _. []) result }
-    ensures shrinks { OnOk result (length cursor.new.rest < length cursor.old.rest) }
+        cursor.old cursor.new result }
+    ensures some { IfOk result (λ tasks. tasks ≢ []) }
 {
     let mut tasks = Items::new(alloc);
     let first = task(alloc, cursor)?;
@@ -85,11 +77,9 @@ fn tasks(alloc: Global, cursor: &mut Cursor<'_>) -> Result<Items<TaskDecl>, Pars
 
 /// `task name { .. }`
 fn task(alloc: Global, cursor: &mut Cursor<'_>) -> Result<TaskDecl, ParseFault>
-    ensures reads { IfOk result (λ task. Reads (Form.Task task) cursor.old.rest cursor.new.rest) }
-    ensures gives { Gives cursor.old
+    ensures { HasRead Form.Task
         (Part.Word keyword.Task ∷ task_then [])
-        cursor.new (λ _. []) result }
-    ensures shrinks { OnOk result (length cursor.new.rest < length cursor.old.rest) }
+        cursor.old cursor.new result }
 {
     cursor.word(Keyword::Task)?;
     let name = cursor.name(alloc)?;

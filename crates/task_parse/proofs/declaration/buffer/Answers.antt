@@ -9,30 +9,36 @@ use Rattle.task_parse.proofs.Steps as S
 use Rattle.task_parse.proofs.Parts as P
 use Rattle.task_parse.proofs.declaration.buffer.Goals as goal
 
-pub returns-then-not-is_at_word-clause-reads : goal.returns-then-not-is_at_word-clause-reads
-returns-then-not-is_at_word-clause-reads c = G.no_buffer
+pub returns-then-not-is_at_word : goal.returns-then-not-is_at_word
+returns-then-not-is_at_word c =
+    record { reads = G.no_buffer; gives = search rules; shrinks = search rules }
 
-pub returns-in_err-word-clause-gives : goal.returns-in_err-word-clause-gives
-returns-in_err-word-clause-gives c =
+pub returns-in_err-word : goal.returns-in_err-word
+returns-in_err-word c =
     let p = err_from_is_err_and c.from_residual.result c.from_residual.ensures.1 in
-    rw (p.1, p.2) (λ k. ap (seen c.in_err-word.field-0.0) (P.buffer_on c.args.cursor.now k (search rules))
-    ∙ c.in_err-word.ensures.gives _)
+    rw (p.1, p.2) (S.may_refused (λ k. ap (seen c.in_err-word.field-0.0) (P.buffer_on c.args.cursor.now k (search rules))
+    ∙ c.in_err-word.ensures.gives _))
 
-pub returns-in_err-size-clause-gives : goal.returns-in_err-size-clause-gives
-returns-in_err-size-clause-gives c =
+pub returns-in_err-size : goal.returns-in_err-size
+returns-in_err-size c =
     let p = err_from_is_err_and c.from_residual-in_err-size.result c.from_residual-in_err-size.ensures.1 in
-    rw (p.1, p.2) (λ k. ap (seen c.in_err-size.field-0.0) (P.buffer_on c.args.cursor.now k (search rules)
+    rw (p.1, p.2) (S.may_refused (λ k. ap (seen c.in_err-size.field-0.0) (P.buffer_on c.args.cursor.now k (search rules)
     ∙ c.in_ok-word.ensures.gives _)
-    ∙ c.in_err-size.ensures.gives _)
+    ∙ c.in_err-size.ensures.gives _))
 
-pub returns-in_err-sign-clause-gives : goal.returns-in_err-sign-clause-gives
-returns-in_err-sign-clause-gives c =
+pub returns-in_err-sign : goal.returns-in_err-sign
+returns-in_err-sign c =
     let p = err_from_is_err_and c.from_residual-in_err-sign.result c.from_residual-in_err-sign.ensures.1 in
-    rw (p.1, p.2) (λ k. ap (seen c.in_err-sign.field-0.0) (P.buffer_on c.args.cursor.now k (search rules)
+    rw (p.1, p.2) (S.may_refused (λ k. ap (seen c.in_err-sign.field-0.0) (P.buffer_on c.args.cursor.now k (search rules)
     ∙ c.in_ok-word.ensures.gives _
-    ∙ c.in_ok-size.ensures.gives _) ∙ c.in_err-sign.ensures.gives k)
+    ∙ c.in_ok-size.ensures.gives _) ∙ c.in_err-sign.ensures.gives k))
 
-pub returns-clause-reads : goal.returns-clause-reads
-returns-clause-reads c = S.from (c.in_ok-word.ensures.reads
-    ∙ ap (λ w. Lexeme.word keyword.Buffer c.in_ok-word.field-0 ∷ w) (c.in_ok-size.ensures.reads
-    ∙ ap (λ w. Lexeme.number c.in_ok-size.size.value c.in_ok-size.size.at ∷ w) c.in_ok-sign.ensures.reads)) G.buffer
+pub returns : goal.returns
+returns c =
+    record {
+      reads = S.from (c.in_ok-word.ensures.reads
+          ∙ ap (λ w. Lexeme.word keyword.Buffer c.in_ok-word.field-0 ∷ w) (c.in_ok-size.ensures.reads
+          ∙ ap (λ w. Lexeme.number c.in_ok-size.size.value c.in_ok-size.size.at ∷ w) c.in_ok-sign.ensures.reads)) G.buffer;
+      gives = search rules;
+      shrinks = search rules;
+    }

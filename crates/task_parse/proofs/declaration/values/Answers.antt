@@ -20,20 +20,20 @@ loop-cursor-init c = record {
   shrinks = (let a = c.in_ok-open.ensures.shrinks in let b = c.in_ok-first.ensures.shrinks in omega arith);
 }
 
-pub returns-in_err-sign-clause-gives : goal.returns-in_err-sign-clause-gives
-returns-in_err-sign-clause-gives c =
+pub returns-in_err-sign : goal.returns-in_err-sign
+returns-in_err-sign c =
     let p = err_from_is_err_and c.from_residual-in_err-sign.result c.from_residual-in_err-sign.ensures.1 in
-    rw (p.1, p.2) (λ k. ap (seen c.in_err-sign.field-0.0) (c.loop-cursor.invariant.gives k
+    rw (p.1, p.2) (S.refused_within (λ k. ap (seen c.in_err-sign.field-0.0) (c.loop-cursor.invariant.gives k
     ∙ P.numbers_on c.loop-cursor.cursor _ (search rules))
-    ∙ c.in_err-sign.ensures.gives _)
+    ∙ c.in_err-sign.ensures.gives _))
 
-pub returns-in_err-value-clause-gives : goal.returns-in_err-value-clause-gives
-returns-in_err-value-clause-gives c =
+pub returns-in_err-value : goal.returns-in_err-value
+returns-in_err-value c =
     let p = err_from_is_err_and c.from_residual-in_err-value.result c.from_residual-in_err-value.ensures.1 in
-    rw (p.1, p.2) (λ k. ap (seen c.in_err-value.field-0.0) (c.loop-cursor.invariant.gives k
+    rw (p.1, p.2) (S.refused_within (λ k. ap (seen c.in_err-value.field-0.0) (c.loop-cursor.invariant.gives k
     ∙ P.numbers_on c.loop-cursor.cursor _ (search rules)
     ∙ c.in_ok-sign.ensures.gives _)
-    ∙ c.in_err-value.ensures.gives _)
+    ∙ c.in_err-value.ensures.gives _))
 
 pub loop-cursor-preserved : goal.loop-cursor-preserved
 loop-cursor-preserved c = record {
@@ -46,13 +46,18 @@ loop-cursor-preserved c = record {
   shrinks = (let a = c.in_ok-sign.ensures.shrinks in let b = c.in_ok-value.ensures.shrinks in omega arith);
 }
 
-pub returns-in_err-close-clause-gives : goal.returns-in_err-close-clause-gives
-returns-in_err-close-clause-gives c =
+pub returns-in_err-close : goal.returns-in_err-close
+returns-in_err-close c =
     let p = err_from_is_err_and c.from_residual-in_err-close.result c.from_residual-in_err-close.ensures.1 in
-    rw (p.1, p.2) (λ k. ap (seen c.in_err-close.field-0.0) (c.loop-cursor.invariant.gives k
-    ∙ P.numbers_over c.loop-cursor.cursor _ (search rules)) ∙ c.in_err-close.ensures.gives k)
+    rw (p.1, p.2) (S.refused_within (λ k. ap (seen c.in_err-close.field-0.0) (c.loop-cursor.invariant.gives k
+    ∙ P.numbers_over c.loop-cursor.cursor _ (search rules)) ∙ c.in_err-close.ensures.gives k))
 
-pub returns-clause-reads : goal.returns-clause-reads
-returns-clause-reads c = subst (λ w. Reads (Form.Given (init.Many w))
-    (Lexeme.sign sign.Assign ∷ c.args.cursor.now.rest) c.close.new.self.rest) (append-nil c.loop-cursor.values)
-    (c.loop-cursor.invariant.reads [] _ (S.from c.in_ok-close.ensures.reads G.no_numbers))
+pub returns : goal.returns
+returns c =
+    record {
+      reads = subst (λ w. Reads (Form.Given (init.Many w))
+          (Lexeme.sign sign.Assign ∷ c.args.cursor.now.rest) c.close.new.self.rest) (append-nil c.loop-cursor.values)
+          (c.loop-cursor.invariant.reads [] _ (S.from c.in_ok-close.ensures.reads G.no_numbers));
+      gives = search rules;
+      shrinks = search rules;
+    }

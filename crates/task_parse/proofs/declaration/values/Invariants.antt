@@ -1,4 +1,4 @@
-use Rattle.std.proofs.Common.{◌≡◌, ◌≤◌, ◌++◌, ◌∷◌, ℕ, List, length}
+use Rattle.std.proofs.Common.{◌≡◌, ◌<◌, ◌++◌, ◌∷◌, ℕ, List, length}
 use Rattle.task_lex.specs.declared.symbol.Symbol.TheVariants as sign
 use Rattle.task_syntax.specs.declared.program.Init.TheVariants as init
 use Rattle.task_parse.specs.Grammar.{Form, Reads}
@@ -14,7 +14,7 @@ invariant-loop-cursor l = record {
   gives : (k : List Part)
       → judge l.fn.cursor (Part.Sign sign.OpenBrace ∷ Part.ANumber ∷ Part.Numbers ∷ Part.Sign sign.CloseBrace ∷ k)
       ≡ judge l.cursor (Part.Numbers ∷ Part.Sign sign.CloseBrace ∷ k);
-  shrinks : length l.cursor.rest ≤ length l.fn.cursor.rest;
+  shrinks : length l.cursor.rest < length l.fn.cursor.rest;
 }
 
 abbrev pub decreases-loop-cursor : goal.decreases-loop-cursor

@@ -1,4 +1,4 @@
-use Rattle.std.proofs.Common.{◌≡◌, ◌≢◌, ◌++◌, ◌∷◌, List, [], length}
+use Rattle.std.proofs.Common.{◌≡◌, ◌≢◌, ◌<◌, ◌++◌, ◌∷◌, List, [], length}
 use Rattle.task_lex.specs.declared.keyword.Keyword.TheVariants as keyword
 use Rattle.task_syntax.specs.declared.program.Var.{Var}
 use Rattle.task_parse.specs.Grammar.{Form, Reads}
@@ -14,6 +14,7 @@ invariant-loop-alloc l = record {
   gives : (k : List Part)
       → judge l.fn.cursor (Part.Word keyword.Nv ∷ variable_then (Part.Variables ∷ k)) ≡ judge l.cursor
       (Part.Variables ∷ k);
+  shrinks : length l.cursor.rest < length l.fn.cursor.rest;
 }
 
 abbrev pub decreases-loop-alloc : goal.decreases-loop-alloc

@@ -1,4 +1,4 @@
-use Rattle.std.proofs.Common.{◌≡◌, ◌++◌, ◌∷◌, List, length}
+use Rattle.std.proofs.Common.{◌≡◌, ◌≤◌, ◌++◌, ◌∷◌, List, length}
 use Rattle.task_syntax.specs.declared.program.Event.{Event}
 use Rattle.task_parse.specs.Grammar.{Form, Reads}
 use Rattle.task_parse.specs.Lexeme.{Lexeme}
@@ -10,6 +10,7 @@ invariant-loop-alloc l = record {
   reads : (more : List Event) (rest : List Lexeme) → Reads (Form.Events more) l.cursor.rest rest
       → Reads (Form.Events (l.events ++ more)) l.fn.cursor.rest rest;
   gives : (k : List Part) → judge l.fn.cursor (Part.Events ∷ k) ≡ judge l.cursor (Part.Events ∷ k);
+  shrinks : length l.cursor.rest ≤ length l.fn.cursor.rest;
 }
 
 abbrev pub decreases-loop-alloc : goal.decreases-loop-alloc

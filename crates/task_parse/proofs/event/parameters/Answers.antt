@@ -9,14 +9,15 @@ use Rattle.task_parse.proofs.Steps as S
 use Rattle.task_parse.proofs.Parts as P
 use Rattle.task_parse.proofs.event.parameters.Goals as goal
 
-pub returns-then-not-is_at_name-clause-reads : goal.returns-then-not-is_at_name-clause-reads
-returns-then-not-is_at_name-clause-reads c = rw c.new-params.ensures G.no_params
+pub returns-then-not-is_at_name : goal.returns-then-not-is_at_name
+returns-then-not-is_at_name c =
+    record { reads = rw c.new-params.ensures G.no_params; gives = search rules; shrinks = search rules }
 
-pub returns-in_err-first-clause-gives : goal.returns-in_err-first-clause-gives
-returns-in_err-first-clause-gives c =
+pub returns-in_err-first : goal.returns-in_err-first
+returns-in_err-first c =
     let p = err_from_is_err_and c.from_residual.result c.from_residual.ensures.1 in
-    rw (p.1, p.2) (λ k. ap (seen c.in_err-first.field-0.0) (P.params_on c.args.cursor.now k (search rules))
-    ∙ c.in_err-first.ensures.gives _)
+    rw (p.1, p.2) (S.may_refused (λ k. ap (seen c.in_err-first.field-0.0) (P.params_on c.args.cursor.now k (search rules))
+    ∙ c.in_err-first.ensures.gives _))
 
 pub loop-alloc-init : goal.loop-alloc-init
 loop-alloc-init c = record {
@@ -26,18 +27,18 @@ loop-alloc-init c = record {
   shrinks = (let a = c.in_ok-first.ensures.shrinks in omega arith);
 }
 
-pub returns-in_err-sign-clause-gives : goal.returns-in_err-sign-clause-gives
-returns-in_err-sign-clause-gives c =
+pub returns-in_err-sign : goal.returns-in_err-sign
+returns-in_err-sign c =
     let p = err_from_is_err_and c.from_residual-in_err-sign.result c.from_residual-in_err-sign.ensures.1 in
-    rw (p.1, p.2) (λ k. ap (seen c.in_err-sign.field-0.0) (c.loop-alloc.invariant.gives k
-    ∙ P.names_on c.loop-alloc.cursor k (search rules)) ∙ c.in_err-sign.ensures.gives _)
+    rw (p.1, p.2) (S.may_refused (λ k. ap (seen c.in_err-sign.field-0.0) (c.loop-alloc.invariant.gives k
+    ∙ P.names_on c.loop-alloc.cursor k (search rules)) ∙ c.in_err-sign.ensures.gives _))
 
-pub returns-in_err-param-clause-gives : goal.returns-in_err-param-clause-gives
-returns-in_err-param-clause-gives c =
+pub returns-in_err-param : goal.returns-in_err-param
+returns-in_err-param c =
     let p = err_from_is_err_and c.from_residual-in_err-param.result c.from_residual-in_err-param.ensures.1 in
-    rw (p.1, p.2) (λ k. ap (seen c.in_err-param.field-0.0) (c.loop-alloc.invariant.gives k
+    rw (p.1, p.2) (S.may_refused (λ k. ap (seen c.in_err-param.field-0.0) (c.loop-alloc.invariant.gives k
     ∙ P.names_on c.loop-alloc.cursor k (search rules) ∙ c.in_ok-sign.ensures.gives _)
-    ∙ c.in_err-param.ensures.gives _)
+    ∙ c.in_err-param.ensures.gives _))
 
 pub loop-alloc-preserved : goal.loop-alloc-preserved
 loop-alloc-preserved c = record {
@@ -49,6 +50,11 @@ loop-alloc-preserved c = record {
   shrinks = (let a = c.in_ok-sign.ensures.shrinks in let b = c.in_ok-param.ensures.shrinks in omega arith);
 }
 
-pub returns-clause-reads : goal.returns-clause-reads
-returns-clause-reads c = subst (λ w. Reads (Form.Params w) c.args.cursor.now.rest c.loop-alloc.cursor.rest)
-    (append-nil c.loop-alloc.params) (c.loop-alloc.invariant.reads [] _ G.no_names)
+pub returns : goal.returns
+returns c =
+    record {
+      reads = subst (λ w. Reads (Form.Params w) c.args.cursor.now.rest c.loop-alloc.cursor.rest)
+          (append-nil c.loop-alloc.params) (c.loop-alloc.invariant.reads [] _ G.no_names);
+      gives = search rules;
+      shrinks = search rules;
+    }

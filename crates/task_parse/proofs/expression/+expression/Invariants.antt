@@ -1,7 +1,7 @@
 use Rattle.std.proofs.Common.{◌≡◌, ◌≤◌, ◌<◌, ◌+◌, ◌*◌, ◌∷◌, List, length}
 use Rattle.task_parse.specs.Bars.{most_operators}
-use Rattle.task_parse.specs.Climbs.{Climbs}
 use Rattle.task_parse.specs.Machine.{Part, judge}
+use Rattle.task_parse.proofs.Climbs.{Climbs}
 use Rattle.task_parse.proofs.expression.+expression.Given as goal
 
 abbrev pub decreases-expression : goal.decreases-expression

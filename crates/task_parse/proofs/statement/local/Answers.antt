@@ -1,4 +1,4 @@
-use Rattle.std.proofs.Common.{◌∷◌, ap, ◌∙◌}
+use Rattle.std.proofs.Common.{rules, ◌∷◌, ap, ◌∙◌}
 use Rattle.task_lex.specs.declared.keyword.Keyword.TheVariants as keyword
 use Rattle.task_parse.specs.Grammar as G
 use Rattle.task_parse.specs.Grammar.{Form, Reads}
@@ -6,8 +6,13 @@ use Rattle.task_parse.specs.Lexeme.{Lexeme}
 use Rattle.task_parse.proofs.Steps as S
 use Rattle.task_parse.proofs.statement.local.Goals as goal
 
-pub returns-clause-reads : goal.returns-clause-reads
-returns-clause-reads c = S.from (c.in_ok-word.ensures.reads
-    ∙ ap (λ w. Lexeme.word keyword.Let c.in_ok-word.field-0 ∷ w) (c.in_ok-name.ensures.reads
-    ∙ ap (λ w. Lexeme.name c.in_ok-name.name ∷ w) c.in_ok-sign.ensures.reads)) (G.declare
-    (S.upto c.in_ok-sign-2.ensures.reads c.in_ok-value.ensures.reads))
+pub returns : goal.returns
+returns c =
+    record {
+      reads = S.from (c.in_ok-word.ensures.reads
+          ∙ ap (λ w. Lexeme.word keyword.Let c.in_ok-word.field-0 ∷ w) (c.in_ok-name.ensures.reads
+          ∙ ap (λ w. Lexeme.name c.in_ok-name.name ∷ w) c.in_ok-sign.ensures.reads)) (G.declare
+          (S.upto c.in_ok-sign-2.ensures.reads c.in_ok-value.ensures.reads));
+      gives = search rules;
+      shrinks = search rules;
+    }

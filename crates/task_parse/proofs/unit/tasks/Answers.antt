@@ -15,11 +15,11 @@ loop-alloc-init c = record {
   shrinks = c.in_ok-first.ensures.shrinks;
 }
 
-pub returns-in_err-next-clause-gives : goal.returns-in_err-next-clause-gives
-returns-in_err-next-clause-gives c =
+pub returns-in_err-next-clause-read : goal.returns-in_err-next-clause-read
+returns-in_err-next-clause-read c =
     let p = err_from_is_err_and c.from_residual-in_err-next.result c.from_residual-in_err-next.ensures.1 in
-    rw (p.1, p.2) (λ k. ap (seen c.in_err-next.field-0.0) (c.loop-alloc.invariant.gives k
-    ∙ P.members_on c.loop-alloc.cursor k (search rules)) ∙ c.in_err-next.ensures.gives _)
+    rw (p.1, p.2) (S.refused (λ k. ap (seen c.in_err-next.field-0.0) (c.loop-alloc.invariant.gives k
+    ∙ P.members_on c.loop-alloc.cursor k (search rules)) ∙ c.in_err-next.ensures.gives _))
 
 pub loop-alloc-preserved : goal.loop-alloc-preserved
 loop-alloc-preserved c = record {
@@ -31,6 +31,11 @@ loop-alloc-preserved c = record {
   shrinks = (let a = c.in_ok-next.ensures.shrinks in omega arith);
 }
 
-pub returns-clause-reads : goal.returns-clause-reads
-returns-clause-reads c = subst (λ w. Reads (Form.Tasks w) c.args.cursor.now.rest c.loop-alloc.cursor.rest)
-    (append-nil c.loop-alloc.tasks) (c.loop-alloc.invariant.reads [] _ G.no_tasks)
+pub returns-clause-read : goal.returns-clause-read
+returns-clause-read c =
+    record {
+      reads = subst (λ w. Reads (Form.Tasks w) c.args.cursor.now.rest c.loop-alloc.cursor.rest)
+          (append-nil c.loop-alloc.tasks) (c.loop-alloc.invariant.reads [] _ G.no_tasks);
+      gives = search rules;
+      shrinks = search rules;
+    }

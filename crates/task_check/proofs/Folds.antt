@@ -1,6 +1,6 @@
 -- What folds give at the layers of a tree that join several parts.
 use Rattle.std.proofs.Common.{◌≡◌, ◌∙◌, List, map, ap, sym}
-use Rattle.std.specs.Prelude.{None, Some}
+use Rattle.std.specs.Prelude.{Some}
 use Rattle.coati_word.specs.declared.operator.Op.{Op}
 use Rattle.task_syntax.specs.declared.expression.Expr.{Expr}
 use Rattle.task_syntax.specs.declared.expression.Place.{Place}
@@ -9,15 +9,9 @@ use Rattle.task_syntax.specs.declared.expression.Place as P
 use Rattle.task_syntax.specs.declared.expression.Expr.TheVariants.{Two, rolls-Two}
 use Rattle.task_syntax.specs.declared.statement.Stmt.{Stmt}
 use Rattle.task_syntax.specs.declared.statement.Stmt as S
-use Rattle.task_syntax.specs.declared.statement.Stmt.TheVariants.{Assign, If, rolls-Assign, rolls-If}
+use Rattle.task_syntax.specs.declared.statement.Stmt.TheVariants.{If, rolls-If}
 
 module _ (A : Type 0) (step : S.Stmt-F A → A) where
-  pub fold-assign : (place : Place) (e : Expr) → S.fold-Stmt A step (Assign place e) ≡ step (S.Stmt-F.Assign place e)
-  fold-assign place e = ap (S.fold-Stmt A step) (sym (rolls-Assign place e)) ∙ S.fold-roll-Stmt A step (S.Stmt-F.Assign place e)
-
-  pub fold-if : (condition : Expr) (block : List Stmt) → S.fold-Stmt A step (If condition block None) ≡ step (S.Stmt-F.If condition (map (S.fold-Stmt A step) block) None)
-  fold-if condition block = ap (S.fold-Stmt A step) (sym (rolls-If condition block None)) ∙ S.fold-roll-Stmt A step (S.Stmt-F.If condition block None)
-
   pub fold-if_else : (condition : Expr) (block other : List Stmt) →
       S.fold-Stmt A step (If condition block (Some other)) ≡ step (S.Stmt-F.If condition (map (S.fold-Stmt A step) block) (Some (map (S.fold-Stmt A step) other)))
   fold-if_else condition block other =

@@ -22,4 +22,5 @@ pub mod TransitionParts
 pub mod Turns
 pub mod UnitNumbers
 pub mod Walking
+pub mod WithinParts
 pub mod WordCounts

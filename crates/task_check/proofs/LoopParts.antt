@@ -7,30 +7,18 @@ use Rattle.task_syntax.specs.declared.name.Name.{Name}
 use Rattle.task_syntax.specs.declared.expression.Expr.{Expr}
 use Rattle.task_syntax.specs.declared.statement.Stmt.{Stmt}
 use Rattle.task_syntax.specs.declared.statement.Stmt as S
-use Rattle.task_syntax.specs.declared.statement.Stmt.TheVariants.{If, Repeat, rolls-Repeat}
 use Rattle.task_check.specs.Loops.{is_among, place_among, plain_name, Within, assigned_step, assigned_in, assigned_in_block}
-use Rattle.task_check.specs.Assignments.{assigns_step, assigns_to, block_assigns_to}
+use Rattle.task_check.specs.Assignments.{assigned_by_loop, assigned_by_loop_step, assigns_step, assigns_to, block_assigns_to}
 use Rattle.task_check.specs.Least.{lesser, least}
-use Rattle.task_check.proofs.Folds.{fold-if_else}
 use Rattle.task_check.proofs.LeastParts.{least-append, lesser_swap}
 use Rattle.task_syntax.proofs.Trees.{StatementCases, AllOtherwise, every_statement_of}
-use Rattle.task_check.proofs.Turns.{JoinsUp}
+use Rattle.task_check.proofs.WithinParts.{Divides}
+use Rattle.task_check.specs.Within.{IsLeastWithin, nested, nested_step}
+use Rattle.std.proofs.lemmas.Grind.{flat_map-append}
+use Rattle.std.proofs.lemmas.List.Folds.{flat_map-map}
 
-pub of_assigned : JoinsUp (λ (block : List Stmt). assigned_in_block block []) (λ statement. assigned_in statement [])
-of_assigned = record { cons = λ first more. refl }
-
-pub of_assigns : (text : List ℕ) → JoinsUp (block_assigns_to text) (assigns_to text)
-of_assigns text = record { cons = λ first more. refl }
-
-pub least-assigned_if_else : (condition : Expr) (block other : List Stmt) →
-    least (assigned_in (If condition block (Some other)) []) ≡ lesser (least (assigned_in_block block [])) (least (assigned_in_block other []))
-least-assigned_if_else condition block other =
-    ap (λ (f : Within). least (f [])) (fold-if_else Within assigned_step condition block other) ∙ least-append (assigned_in_block block []) (assigned_in_block other [])
-
-pub least-assigns_if_else : (text : List ℕ) (condition : Expr) (block other : List Stmt) →
-    least (assigns_to text (If condition block (Some other))) ≡ lesser (least (block_assigns_to text block)) (least (block_assigns_to text other))
-least-assigns_if_else text condition block other =
-    ap least (fold-if_else (List ℕ) (assigns_step text) condition block other) ∙ least-append (block_assigns_to text block) (block_assigns_to text other)
+pub of_assigns : (text : List ℕ) → Divides (assigns_step text)
+of_assigns text = record { chosen = λ condition block other. refl; repeated = λ name count block. refl }
 
 -- a name is among these where it is one name or among others
 abbrev IsOneMore : List ℕ → List (List ℕ) → List (List ℕ) → Type 0
@@ -125,8 +113,34 @@ pub least-loop : (text : List ℕ) (block : List Stmt) →
     least (assigned_in_block block (text ∷ [])) ≡ lesser (least (block_assigns_to text block)) (least (assigned_in_block block []))
 least-loop text block = block_adds text block (every_statement_of (AddsItsOwn text) (layers text) block) [] (text ∷ []) (λ name. refl)
 
-pub least-repeat : (name : Name) (count : ℕ) (block : List Stmt) →
-    least (assigned_in (Repeat name count block) []) ≡ lesser (least (block_assigns_to name.text block)) (least (assigned_in_block block []))
-least-repeat name count block =
-    ap (λ (f : Within). least (f [])) (ap assigned_in (sym (rolls-Repeat name count block)) ∙ S.fold-roll-Stmt Within assigned_step (S.Stmt-F.Repeat name count block))
-    ∙ least-loop name.text block
+none-among : (names : List Name) → least (flat_map (place_among []) names) ≡ None
+none-among [] = refl
+none-among (name ∷ more) = none-among more
+
+-- the assignments of a statement to the names of its loops are those that it divides into
+abbrev own : Stmt → List ℕ
+own statement = assigned_in statement []
+
+in_block-flat : (block : List Stmt) → assigned_in_block block [] ≡ flat_map own block
+in_block-flat block = flat_map-map (λ (found : Within). found []) assigned_in block
+
+in_layer : (x : S.Stmt-F Stmt) → least (assigned_step (S.map-Stmt Stmt Within assigned_in x) []) ≡ lesser (least (assigned_by_loop_step x)) (least (flat_map own (nested_step x)))
+in_layer (S.Stmt-F.Let name e) = refl
+in_layer (S.Stmt-F.Assign place e) = none-among (plain_name place)
+in_layer (S.Stmt-F.If condition block None) = ap (λ (found : List ℕ). least (found ++ [])) (in_block-flat block) ∙ ap least (sym (flat_map-append own block []))
+in_layer (S.Stmt-F.If condition block (Some other)) =
+    ap (λ (found : List ℕ). least (found ++ assigned_in_block other [])) (in_block-flat block)
+    ∙ ap (λ (found : List ℕ). least (flat_map own block ++ found)) (in_block-flat other)
+    ∙ ap least (sym (flat_map-append own block other))
+in_layer (S.Stmt-F.Repeat name count block) = least-loop name.text block ∙ ap (λ (found : List ℕ). lesser (least (block_assigns_to name.text block)) (least found)) (in_block-flat block)
+in_layer (S.Stmt-F.Next name) = refl
+in_layer (S.Stmt-F.Halt at) = refl
+in_layer (S.Stmt-F.Give es at) = refl
+
+pub least-assigned : (answers : Stmt → Option ℕ → Type 0) (block : List Stmt) (found : Option ℕ) → IsLeastWithin answers block found →
+    ((s : Stmt) (at : Option ℕ) → answers s at → at ≡ least (assigned_by_loop s)) → found ≡ least (assigned_in_block block [])
+least-assigned answers block found is each =
+    is own (λ s at answered.
+    ap (λ (f : Within). least (f [])) (S.fold_out-Stmt Within assigned_step s) ∙ in_layer (S.out-Stmt s)
+    ∙ ap (λ (found : Option ℕ). lesser found (least (flat_map own (nested s)))) (sym (each s at answered)))
+    ∙ ap least (sym (in_block-flat block))

@@ -1,8 +1,8 @@
 -- Least places of lists that are joined.
-use Rattle.std.proofs.Common.{◌≡◌, ℕ, Bool, List, [], ◌∷◌, ◌++◌, refl, ap, sym, ◌∙◌, ◌<◌, ◌+◌, length, get_or, drop, map}
+use Rattle.std.proofs.Common.{◌≡◌, ℕ, Bool, List, [], ◌∷◌, ◌++◌, refl, ap, sym, ◌∙◌, map}
 use Rattle.std.specs.Prelude.{Option, flat_map}
 use Rattle.std.specs.List.{concat}
-use Rattle.std.proofs.lemmas.List.{map-append, drop_more}
+use Rattle.std.proofs.lemmas.List.{map-append}
 use Rattle.std.proofs.lemmas.List.Elements.{filter-append}
 use Rattle.task_check.specs.declared.found.Found.{Found}
 use Rattle.task_check.specs.declared.meaning.Meaning.{Meaning}
@@ -25,17 +25,9 @@ joined-joined one two three = simp lesser_assoc
 pub joined-none : (one : Found) → joined one (found_among []) ≡ one
 joined-none one = simp lesser-none
 
--- what is found so far, joined with what the rest has
-module _ {X : Type 0} (places : X → List ℕ) where
-  pub joined-from : (xs : List X) (i : ℕ) (x : X) (found : Option ℕ) → i < length xs → x ≡ get_or xs i x
-      → lesser (lesser found (least (places x))) (least (flat_map places (drop (i + 1) xs))) ≡ lesser found (least (flat_map places (drop i xs)))
-  joined-from xs i x found within is =
-      lesser_assoc found (least (places x)) (least (flat_map places (drop (i + 1) xs)))
-      ∙ ap (lesser found) (sym (least-append (places x) (flat_map places (drop (i + 1) xs))) ∙ ap (λ list. least (flat_map places list)) (sym (drop_more xs i x within ∙ ap (λ first. first ∷ drop (i + 1) xs) (sym is))))
-
-  pub concat-map : (xs : List X) → concat (map places xs) ≡ flat_map places xs
-  concat-map [] = refl
-  concat-map (x ∷ xs) = ap (λ rest. places x ++ rest) (concat-map xs)
+pub concat-map : {X : Type 0} (places : X → List ℕ) (xs : List X) → concat (map places xs) ≡ flat_map places xs
+concat-map places [] = refl
+concat-map places (x ∷ xs) = ap (λ rest. places x ++ rest) (concat-map places xs)
 
 pub is_least : (places : List ℕ) (found : Option ℕ) → found ≡ least places → IsLeastOf places found
 is_least places found is = rw is (IsLeastOf_least places)
@@ -48,5 +40,3 @@ pub is_least-three : (one two three : List ℕ) (found : Option ℕ) → found �
 is_least-three one two three found is = is_least-two (one ++ two) three found (is ∙ ap (λ both. lesser both (least three)) (sym (least-append one two)))
 
 pub ruleset finding = (found-append, joined-joined, joined-none)
-
-pub ruleset leasts = (least-append, lesser_assoc, lesser-none, IsLeastOf_least, is_least-two, is_least-three)

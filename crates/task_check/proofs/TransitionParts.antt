@@ -1,4 +1,4 @@
--- Transitions into transactions, found statement by statement and unit by unit.
+-- Transitions into transactions, of a statement by itself and in its blocks, and unit by unit.
 use Rattle.std.proofs.Common.{◌≡◌, ◌∙◌, ℕ, ◌+◌, List, [], ◌∷◌, ◌++◌, map, length, replicate, ◌≤◌, refl, ap, sym, append-nil, arith}
 use Rattle.std.specs.Prelude.{Option, None, Some, flat_map, zip}
 use Rattle.std.proofs.lemmas.Grind.{flat_map-append}
@@ -7,29 +7,14 @@ use Rattle.task_syntax.specs.declared.program.Program.{Program}
 use Rattle.task_syntax.specs.declared.program.TaskDecl.{TaskDecl}
 use Rattle.task_syntax.specs.declared.program.UnitDecl.{UnitDecl}
 use Rattle.task_syntax.specs.declared.program.UnitDecl.TheVariants.{Lone, Tx}
-use Rattle.task_syntax.specs.declared.expression.Expr.{Expr}
-use Rattle.task_syntax.specs.declared.statement.Stmt.{Stmt}
-use Rattle.task_syntax.specs.declared.statement.Stmt.TheVariants.{If}
 use Rattle.task_syntax.specs.Names.{tasks_of_unit}
 use Rattle.task_syntax.specs.Units.{memberships}
-use Rattle.task_check.specs.Transitions.{enters_in, enters_in_block, enters_in_member, into_step, members}
+use Rattle.task_check.specs.Transitions.{enters_in_member, into_step, members}
 use Rattle.task_check.specs.UnitWalk.{own_number, count_with}
-use Rattle.task_check.specs.Least.{lesser, least}
-use Rattle.task_check.proofs.Folds.{fold-if_else}
-use Rattle.task_check.proofs.LeastParts.{least-append}
-use Rattle.task_check.proofs.Turns.{JoinsUp}
+use Rattle.task_check.proofs.WithinParts.{Divides}
 
-module _ (program : Program) where
-  pub of_block : (own : Option ℕ) → JoinsUp (enters_in_block program own) (enters_in program own)
-  of_block own = record { cons = λ first more. refl }
-
-  pub of_member : (own : Option ℕ) → JoinsUp (λ (tasks : List TaskDecl). flat_map (λ (task : TaskDecl). enters_in_member program (own, task)) tasks) (λ task. enters_in_member program (own, task))
-  of_member own = record { cons = λ first more. refl }
-
-  pub least-if_else : (own : Option ℕ) (condition : Expr) (block other : List Stmt) →
-      least (enters_in program own (If condition block (Some other))) ≡ lesser (least (enters_in_block program own block)) (least (enters_in_block program own other))
-  least-if_else own condition block other =
-      ap least (fold-if_else (List ℕ) (into_step program own) condition block other) ∙ least-append (enters_in_block program own block) (enters_in_block program own other)
+pub of_transitions : (program : Program) (own : Option ℕ) → Divides (into_step program own)
+of_transitions program own = record { chosen = λ condition block other. refl; repeated = λ name count block. refl }
 
 -- tasks beside one transaction
 zip-same : (own : Option ℕ) (tasks more : List TaskDecl) (others : List (Option ℕ)) →

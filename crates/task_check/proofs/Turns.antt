@@ -1,11 +1,14 @@
 -- Turns of loops that join what they find in each item.
-use Rattle.std.proofs.Common.{◌≡◌, ◌∙◌, ℕ, ◌+◌, ◌<◌, List, ◌∷◌, ◌++◌, length, drop, get_or, sym, ap}
-use Rattle.std.specs.Prelude.{Option}
+use Rattle.std.proofs.Common.{◌≡◌, ◌∙◌, ℕ, ◌+◌, ◌<◌, List, ◌∷◌, ◌++◌, length, drop, get_or, sym, ap, refl}
+use Rattle.std.specs.Prelude.{Option, flat_map}
 use Rattle.std.proofs.lemmas.List.{at_drop_more}
 
 -- a function of lists that puts together what it gives of their items
 pub record JoinsUp {X A : Type 0} (all : List X → List A) (each : X → List A) : Type 0 where
   pub cons : (x : X) (xs : List X) → all (x ∷ xs) ≡ each x ++ all xs
+
+pub of_each : {X A : Type 0} (each : X → List A) → JoinsUp (flat_map each) each
+of_each each = record { cons = λ x xs. refl }
 
 -- what is chosen of a list is joined from what is chosen of its parts
 pub record IsJoined {A : Type 0} (join : Option A → Option A → Option A) (choice : List A → Option A) : Type 0 where

@@ -30,3 +30,4 @@ pub mod BodyRules
 pub mod Found
 pub mod UnitWalk
 pub mod Walk
+pub mod Within

@@ -16,6 +16,7 @@ mod rule;
 mod rules;
 mod scope;
 mod walk;
+mod within;
 
 pub use checked::Checked;
 pub use checking::check;

@@ -2,7 +2,7 @@ ghost use Rattle.std.specs.Prelude.{◌≡◌, flat_map};
 ghost use Rattle.task_check.specs.Counts.{bad_count_places, bad_var, init_fits, length_fits};
 ghost use Rattle.task_check.specs.Least.{IsLeastOf, least};
 
-use crate::least::{lesser, place_unless};
+use crate::least::{least_among, lesser, place_unless};
 use crate::rules::{BodyRule, least_in_bodies};
 use coati_word::limits::ARRAY_WORDS;
 use task_syntax::{Init, Program, Var};
@@ -15,15 +15,10 @@ pub(crate) fn bad_count(program: &Program) -> Option<u32>
     lesser(variables, least_in_bodies(BodyRule::BadCount, program))
 }
 
-#[tactic(auto, using(crate::proofs::Places::leasts))]
 fn bad_variables(vars: &[Var]) -> Option<u32>
     ensures { result ≡ least (flat_map bad_var vars.now) }
 {
-    let mut found = None;
-    for var in vars {
-        found = lesser(found, bad_variable(var));
-    }
-    found
+    least_among(vars, bad_variable)
 }
 
 fn bad_variable(var: &Var) -> Option<u32>

@@ -9,7 +9,7 @@ ghost use Rattle.task_check.specs.Measures.{too_deep_stack_places, too_many_loca
 
 use super::body::Body;
 use super::body_rule::BodyRule;
-use crate::least::lesser;
+use crate::least::{least_among, lesser};
 use task_syntax::{Event, Program, TaskDecl, UnitDecl};
 
 /// Rule 8: the least name of a task or an event whose task or top half doesn't end.
@@ -61,38 +61,23 @@ pub(crate) fn least_in_bodies(rule: BodyRule, program: &Program) -> Option<u32>
     lesser(tasks, least_in_events(rule, program.events.as_slice()))
 }
 
-#[tactic(auto, using(crate::proofs::LeastParts::parts))]
 fn least_in_units(rule: BodyRule, units: &[UnitDecl]) -> Option<u32>
     ensures { result ≡ least (flat_map (broken_in rule)
         (map task_body (flat_map tasks_of_unit units.now))) }
 {
-    let mut found = None;
-    for unit in units {
-        found = lesser(found, least_in_tasks(rule, unit.tasks()));
-    }
-    found
+    least_among(units, |unit| least_in_tasks(rule, unit.tasks()))
 }
 
-#[tactic(auto, using(crate::proofs::LeastParts::parts))]
 fn least_in_tasks(rule: BodyRule, tasks: &[TaskDecl]) -> Option<u32>
     ensures { result ≡ least (flat_map (broken_in rule) (map task_body tasks.now)) }
 {
-    let mut found = None;
-    for task in tasks {
-        found = lesser(found, rule.least_in(&Body::of_task(task)));
-    }
-    found
+    least_among(tasks, |task| rule.least_in(&Body::of_task(task)))
 }
 
-#[tactic(auto, using(crate::proofs::LeastParts::parts))]
 fn least_in_events(rule: BodyRule, events: &[Event]) -> Option<u32>
     ensures { result ≡ least (flat_map (broken_in rule) (flat_map halves events.now)) }
 {
-    let mut found = None;
-    for event in events {
-        found = lesser(found, least_in_halves(rule, event));
-    }
-    found
+    least_among(events, |event| least_in_halves(rule, event))
 }
 
 #[tactic(auto, using(crate::proofs::LeastParts::parts))]

@@ -1,8 +1,10 @@
 ghost use Rattle.std.specs.Prelude.{◌≡◌, flat_map, length};
-ghost use Rattle.task_check.specs.Gives.{fifth, give_shape, give_shape_places, misgiven, misgiven_in};
+ghost use Rattle.task_check.specs.Gives.{fifth, give_shape, give_shape_places, misgiven_in, misgiven_step};
 ghost use Rattle.task_check.specs.Least.{IsLeastOf, least};
+ghost use Rattle.task_check.specs.Within.{bare};
 
-use crate::least::lesser;
+use crate::least::{least_among, lesser};
+use crate::within::least_within;
 use coati_word::limits::MESSAGE_WORDS;
 use task_syntax::{Event, Name, Program, Stmt};
 
@@ -18,11 +20,7 @@ pub(crate) fn least_misgiven(program: &Program) -> Option<u32>
 fn least_in_events(events: &[Event]) -> Option<u32>
     ensures { result ≡ least (flat_map give_shape events.now) }
 {
-    let mut found = None;
-    for event in events {
-        found = lesser(found, least_in_event(event));
-    }
-    found
+    least_among(events, least_in_event)
 }
 
 #[tactic(auto, using(crate::proofs::LeastParts::parts))]
@@ -47,31 +45,18 @@ fn fifth(params: &[Name]) -> Option<u32>
 }
 
 /// The least `give` of another count of words in a block.
-#[cycle(misgiven)]
 fn misgiven_in(block: &[Stmt], count: usize) -> Option<u32>
     ensures { result ≡ least (misgiven_in count block.now) }
 {
-    let mut found = None;
-    for statement in block {
-        found = lesser(found, misgiven(statement, count));
-    }
-    found
+    least_within(block, &|statement| misgiven(statement, count))
 }
 
-#[cycle(misgiven)]
+/// The place of a `give` of another count of words.
 fn misgiven(statement: &Stmt, count: usize) -> Option<u32>
-    ensures { result ≡ least (misgiven count statement.now) }
+    ensures { result ≡ least (misgiven_step count (bare statement.now)) }
 {
     match statement {
-        Stmt::If(_, block, other) => {
-            let block = misgiven_in(block.as_slice(), count);
-            match other {
-                Some(other) => lesser(block, misgiven_in(other.as_slice(), count)),
-                None => block,
-            }
-        }
-        Stmt::Repeat(_, _, block) => misgiven_in(block.as_slice(), count),
         Stmt::Give(values, at) => (values.len() != count).then_some(*at),
-        Stmt::Let(_, _) | Stmt::Assign(_, _) | Stmt::Next(_) | Stmt::Halt(_) => None,
+        _ => None,
     }
 }

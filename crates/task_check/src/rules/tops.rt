@@ -3,9 +3,11 @@ ghost use Rattle.std.specs.List.{list_any};
 ghost use Rattle.std.specs.Str.{bytes_eq};
 ghost use Rattle.task_syntax.specs.Names.{words_of};
 ghost use Rattle.task_check.specs.Least.{IsLeastOf, least};
-ghost use Rattle.task_check.specs.Tops.{in_expression, in_expressions, in_place, named_in, named_in_block, top_reads_nv_places, variable_at};
+ghost use Rattle.task_check.specs.Tops.{in_expression, in_expressions, in_place, named_in_block, named_step, top_reads_nv_places, variable_at};
+ghost use Rattle.task_check.specs.Within.{bare};
 
-use crate::least::lesser;
+use crate::least::{least_among, lesser};
+use crate::within::least_within;
 use task_syntax::{Event, Expr, Name, NameText, Place, Program, Stmt, Var};
 
 /// Rule 11: the least name of a variable in a top half.
@@ -19,59 +21,38 @@ pub(crate) fn least_variable_in_top(program: &Program) -> Option<u32>
 fn least_in_events(program: &Program, events: &[Event]) -> Option<u32>
     ensures { result ≡ least (flat_map (λ event. named_in_block program.now event.top) events.now) }
 {
-    let mut found = None;
-    for event in events {
-        found = lesser(found, named_in_block(program, event.top.as_slice()));
-    }
-    found
+    least_among(
+        events,
+        |event| named_in_block(program, event.top.as_slice()),
+    )
 }
 
 /// The least variable that a block names.
-#[cycle(named)]
 fn named_in_block(program: &Program, block: &[Stmt]) -> Option<u32>
     ensures { result ≡ least (named_in_block program.now block.now) }
 {
-    let mut found = None;
-    for statement in block {
-        found = lesser(found, named_in(program, statement));
-    }
-    found
+    least_within(block, &|statement| named_in(program, statement))
 }
 
-#[cycle(named)]
+/// The least variable that a statement names outside its blocks.
 fn named_in(program: &Program, statement: &Stmt) -> Option<u32>
-    ensures { result ≡ least (named_in program.now statement.now) }
+    ensures { result ≡ least (named_step program.now (bare statement.now)) }
 {
     match statement {
         Stmt::Let(_, value) => in_expression(program, value),
         Stmt::Assign(place, value) => {
             lesser(in_place(program, place), in_expression(program, value))
         }
-        Stmt::If(condition, block, other) => {
-            let condition = in_expression(program, condition);
-            let block = named_in_block(program, block.as_slice());
-            match other {
-                Some(other) => {
-                    let other = named_in_block(program, other.as_slice());
-                    lesser(condition, lesser(block, other))
-                }
-                None => lesser(condition, block),
-            }
-        }
-        Stmt::Repeat(_, _, block) => named_in_block(program, block.as_slice()),
+        Stmt::If(condition, _, _) => in_expression(program, condition),
         Stmt::Give(values, _) => in_expressions(program, values.as_slice()),
-        Stmt::Next(_) | Stmt::Halt(_) => None,
+        Stmt::Repeat(_, _, _) | Stmt::Next(_) | Stmt::Halt(_) => None,
     }
 }
 
 fn in_expressions(program: &Program, values: &[Expr]) -> Option<u32>
     ensures { result ≡ least (in_expressions program.now values.now) }
 {
-    let mut found = None;
-    for value in values {
-        found = lesser(found, in_expression(program, value));
-    }
-    found
+    least_among(values, |value| in_expression(program, value))
 }
 
 #[cycle(expression)]

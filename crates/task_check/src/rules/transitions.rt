@@ -1,10 +1,12 @@
 ghost use Rattle.std.specs.Prelude.{◌≡◌, ◌+◌, ◌<◌, ◌^◌, flat_map};
 ghost use Rattle.task_syntax.specs.Names.{task_from};
 ghost use Rattle.task_check.specs.Least.{IsLeastOf, least};
-ghost use Rattle.task_check.specs.Transitions.{enters_in, enters_in_block, enters_in_member, into, into_tx_places, members, midst_of};
+ghost use Rattle.task_check.specs.Transitions.{enters_in_block, enters_in_member, into, into_step, into_tx_places, members, midst_of};
 ghost use Rattle.task_check.specs.UnitWalk.{count_with, own_number};
+ghost use Rattle.task_check.specs.Within.{bare};
 
-use crate::least::lesser;
+use crate::least::{least_among, lesser};
+use crate::within::least_within;
 use task_syntax::{NameText, Program, Stmt, TaskDecl, UnitDecl};
 
 /// Rule 10: the least named task that is entered from outside its transaction, though it isn't the
@@ -33,11 +35,10 @@ fn enters_in_tasks(program: &Program, own: Option<usize>, tasks: &[TaskDecl]) ->
     ensures { result ≡ least
         (flat_map (λ task. enters_in_member program.now (own, task)) tasks.now) }
 {
-    let mut found = None;
-    for task in tasks {
-        found = lesser(found, enters_in_block(program, own, task.body.as_slice()));
-    }
-    found
+    least_among(
+        tasks,
+        |task| enters_in_block(program, own, task.body.as_slice()),
+    )
 }
 
 /// The transaction that the unit is, where so many stand before it.
@@ -63,32 +64,19 @@ pub(crate) fn count_with(unit: &UnitDecl, tx: usize) -> usize
 
 /// The least named task in a block that is entered from outside its transaction; the block is in a
 /// task of `own`.
-#[cycle(enters)]
 fn enters_in_block(program: &Program, own: Option<usize>, block: &[Stmt]) -> Option<u32>
     ensures { result ≡ least (enters_in_block program.now own block.now) }
 {
-    let mut found = None;
-    for statement in block {
-        found = lesser(found, enters_in(program, own, statement));
-    }
-    found
+    least_within(block, &|statement| enters(program, own, statement))
 }
 
-#[cycle(enters)]
-fn enters_in(program: &Program, own: Option<usize>, statement: &Stmt) -> Option<u32>
-    ensures { result ≡ least (enters_in program.now own statement.now) }
+/// The task that a `next` names, where it is entered from outside its transaction.
+fn enters(program: &Program, own: Option<usize>, statement: &Stmt) -> Option<u32>
+    ensures { result ≡ least (into_step program.now own (bare statement.now)) }
 {
     match statement {
-        Stmt::If(_, block, other) => {
-            let block = enters_in_block(program, own, block.as_slice());
-            match other {
-                Some(other) => lesser(block, enters_in_block(program, own, other.as_slice())),
-                None => block,
-            }
-        }
-        Stmt::Repeat(_, _, block) => enters_in_block(program, own, block.as_slice()),
         Stmt::Next(name) => into(own, midst_of(program, &name.text), name.at),
-        Stmt::Let(_, _) | Stmt::Assign(_, _) | Stmt::Halt(_) | Stmt::Give(_, _) => None,
+        _ => None,
     }
 }
 

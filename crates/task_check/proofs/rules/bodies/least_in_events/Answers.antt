@@ -1,11 +1,8 @@
-use Rattle.std.proofs.Common.{arith, rules}
+use Rattle.std.proofs.Common.{refl, rules}
 use Rattle.task_check.specs.BodyRules.{broken_in}
 use Rattle.task_check.proofs.BodyParts.{of_events}
-use Rattle.task_check.proofs.LeastParts.{least_joins}
-use Rattle.task_check.proofs.Turns.{turn}
+use Rattle.task_check.proofs.WithinParts.{least-among}
 use Rattle.task_check.proofs.rules.bodies.least_in_events.Goals as goal
 
-pub loop-event-preserved : goal.loop-event-preserved
-loop-event-preserved c =
-    turn _ _ least_joins _ _ (of_events (broken_in c.args.rule)) c.args.events.now c.loop-event.event-index c.event-item.result c.loop-event.found c.least_in_halves.result c.lesser-found.result
-    (omega arith) c.event-item.is (search rules) c.lesser-found.ensures c.loop-event.invariant
+pub returns : goal.returns
+returns c = least-among _ c.args.events.now _ c.least_among.ensures _ _ refl (of_events (broken_in c.args.rule)) (λ event at answered. search rules)

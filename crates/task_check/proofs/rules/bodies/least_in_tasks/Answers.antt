@@ -1,11 +1,8 @@
-use Rattle.std.proofs.Common.{arith, rules}
+use Rattle.std.proofs.Common.{refl, rules}
 use Rattle.task_check.specs.BodyRules.{broken_in}
 use Rattle.task_check.proofs.BodyParts.{of_tasks}
-use Rattle.task_check.proofs.LeastParts.{least_joins}
-use Rattle.task_check.proofs.Turns.{turn}
+use Rattle.task_check.proofs.WithinParts.{least-among}
 use Rattle.task_check.proofs.rules.bodies.least_in_tasks.Goals as goal
 
-pub loop-task-preserved : goal.loop-task-preserved
-loop-task-preserved c =
-    turn _ _ least_joins _ _ (of_tasks (broken_in c.args.rule)) c.args.tasks.now c.loop-task.task-index c.task-item.result c.loop-task.found c.least_in.result c.lesser-found.result
-    (omega arith) c.task-item.is (search rules) c.lesser-found.ensures c.loop-task.invariant
+pub returns : goal.returns
+returns c = least-among _ c.args.tasks.now _ c.least_among.ensures _ _ refl (of_tasks (broken_in c.args.rule)) (λ task at answered. search rules)

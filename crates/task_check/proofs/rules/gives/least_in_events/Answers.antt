@@ -1,10 +1,6 @@
-use Rattle.std.proofs.Common.{arith, rules}
-use Rattle.task_check.proofs.GiveParts.{of_events}
-use Rattle.task_check.proofs.LeastParts.{least_joins}
-use Rattle.task_check.proofs.Turns.{turn}
+use Rattle.std.proofs.Common.{rules}
+use Rattle.task_check.specs.Gives.{give_shape}
 use Rattle.task_check.proofs.rules.gives.least_in_events.Goals as goal
 
-pub loop-event-preserved : goal.loop-event-preserved
-loop-event-preserved c =
-    turn _ _ least_joins _ _ of_events c.args.events.now c.loop-event.event-index c.event-item.result c.loop-event.found c.least_in_event.result c.lesser-found.result
-    (omega arith) c.event-item.is (search rules) c.lesser-found.ensures c.loop-event.invariant
+pub returns : goal.returns
+returns c = c.least_among.ensures give_shape (λ event at answered. search rules)

@@ -1,10 +1,6 @@
-use Rattle.std.proofs.Common.{arith, rules}
-use Rattle.task_check.proofs.TopParts.{of_tops}
-use Rattle.task_check.proofs.LeastParts.{least_joins}
-use Rattle.task_check.proofs.Turns.{turn}
+use Rattle.std.proofs.Common.{rules}
+use Rattle.task_check.specs.Tops.{named_in_block}
 use Rattle.task_check.proofs.rules.tops.least_in_events.Goals as goal
 
-pub loop-event-preserved : goal.loop-event-preserved
-loop-event-preserved c =
-    turn _ _ least_joins _ _ (of_tops c.args.program.now) c.args.events.now c.loop-event.event-index c.event-item.result c.loop-event.found c.named_in_block.result c.lesser-found.result
-    (omega arith) c.event-item.is (search rules) c.lesser-found.ensures c.loop-event.invariant
+pub returns : goal.returns
+returns c = c.least_among.ensures (λ event. named_in_block c.args.program.now event.top) (λ event at answered. search rules)

@@ -18,7 +18,7 @@ fn words(rt: &(impl Env + AllocGlobal)) -> Result<Vec<String>, OutOfMemory> {
     match env::args(rt) {
         Ok(args) => {
             for word in args.skip(1) {
-                words.push(word).map_err(|_| OutOfMemory)?;
+                words.push(word)?;
             }
         }
         Err(e) if e.kind() == ErrorKind::OutOfMemory => return Err(OutOfMemory),

@@ -372,7 +372,7 @@ fn blank_image(alloc: Global, checked: &Checked, mode: Mode) -> Result<Image, Ou
     ensures blank { IfOk result (IsBlankImage checked.now mode) }
 {
     let _program = checked.program();
-    let opening = opening_words(alloc, checked).map_err(|_| OutOfMemory)?;
+    let opening = opening_words(alloc, checked)?;
     let image = Image::blank(alloc, opening.as_slice(), checked.buffer(), mode)?;
     let _layout = image.layout();
     Ok(image)

@@ -37,7 +37,7 @@ impl Readings {
         ensures room { OnOk result (more ≤ self.new.room) }
         ensures roomier { self.old.room ≤ self.new.room }
     {
-        self.items.reserve(more as usize).map_err(|_| OutOfMemory)
+        Ok(self.items.reserve(more as usize)?)
     }
 
     /// Adds a reading. No memory is taken.

@@ -27,7 +27,7 @@ fn put_shown(out: &mut Vec<u8>, bytes: &[u8]) -> Result<(), OutOfMemory>
     ensures { OnOk result (out.new.items ≡ out.old.items ++ shown bytes.now) }
 {
     for byte in bytes {
-        out.push(shown_byte(*byte)).map_err(|_| OutOfMemory)?;
+        out.push(shown_byte(*byte))?;
     }
     Ok(())
 }
@@ -56,7 +56,7 @@ fn put_blanks(out: &mut Vec<u8>, count: u32) -> Result<(), OutOfMemory>
     ensures { OnOk result (out.new.items ≡ out.old.items ++ replicate count 32) }
 {
     for _ in 0..count {
-        out.push(b' ').map_err(|_| OutOfMemory)?;
+        out.push(b' ')?;
     }
     Ok(())
 }

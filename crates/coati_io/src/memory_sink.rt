@@ -65,7 +65,7 @@ impl MemSink {
         ensures refused { OnErr result ((self.new ≡ self.old) × (self.old.room < n)) }
     {
         if self.room < n {
-            self.bytes.reserve(n).map_err(|_| OutOfMemory)?;
+            self.bytes.reserve(n)?;
             self.room = n;
         }
         Ok(())

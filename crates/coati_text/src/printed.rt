@@ -9,6 +9,5 @@ pub fn put_decimal(out: &mut Vec<u8>, n: u32) -> Result<(), OutOfMemory>
     ensures err { OnErr result (out.new.items ≡ out.old.items) }
 {
     let mut buffer = Buffer::new();
-    out.extend_from_slice(buffer.format(n).as_bytes())
-        .map_err(|_| OutOfMemory)
+    Ok(out.extend_from_slice(buffer.format(n).as_bytes())?)
 }

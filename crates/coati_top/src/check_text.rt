@@ -13,7 +13,7 @@ use task_syntax::BodyId;
 pub(crate) fn check_text(alloc: Global, checked: &Checked) -> Result<Vec<u8>, OutOfMemory>
     ensures { IfOk result (λ text. text.items ≡ check_text checked.now) }
 {
-    let mut out = Vec::from_slice(alloc, b"accepted\n").map_err(|_| OutOfMemory)?;
+    let mut out = Vec::from_slice(alloc, b"accepted\n")?;
     put_number_line(&mut out, b"words", u32::from(checked.words()))?;
     put_number_line(&mut out, b"buffer", u32::from(checked.buffer()))?;
     put_tasks(&mut out, checked)?;

@@ -10,7 +10,7 @@ use coati_word::OutOfMemory;
 pub fn put(out: &mut Vec<u8>, bytes: &[u8]) -> Result<(), OutOfMemory>
     ensures { OnOk result (out.new.items ≡ out.old.items ++ bytes.now) }
 {
-    out.extend_from_slice(bytes).map_err(|_| OutOfMemory)
+    Ok(out.extend_from_slice(bytes)?)
 }
 
 /// Appends a word and the number behind it.

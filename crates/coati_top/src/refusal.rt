@@ -12,7 +12,7 @@ use task_check::Rule;
 pub(crate) fn refusal_text(alloc: Global, fault: SourceFault) -> Result<Vec<u8>, OutOfMemory>
     ensures { IfOk result (λ text. text.items ≡ refusal_text fault) }
 {
-    let mut out = Vec::from_slice(alloc, b"refused ").map_err(|_| OutOfMemory)?;
+    let mut out = Vec::from_slice(alloc, b"refused ")?;
     put_fault(&mut out, fault)?;
     put(&mut out, b"\n")?;
     Ok(out)

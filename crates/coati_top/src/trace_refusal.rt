@@ -16,9 +16,7 @@ pub(crate) fn trace_refusal(alloc: Global, fault: TraceFault) -> Result<Vec<u8>,
         TraceFault::Unknown(number) => line_refusal(alloc, number, b"unknown"),
         TraceFault::Order(number) => line_refusal(alloc, number, b"order"),
         TraceFault::TooMany(number) => line_refusal(alloc, number, b"many"),
-        TraceFault::NoLimit => {
-            Vec::from_slice(alloc, b"trace without limit\n").map_err(|_| OutOfMemory)
-        }
+        TraceFault::NoLimit => { Ok(Vec::from_slice(alloc, b"trace without limit\n")?) }
         TraceFault::OutOfMemory => Err(OutOfMemory),
     }
 }

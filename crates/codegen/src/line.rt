@@ -76,7 +76,7 @@ pub(crate) fn put_field(out: &mut Vec<u8>, text: &[u8]) -> Result<(), OutOfMemor
 pub(crate) fn put(out: &mut Vec<u8>, bytes: &[u8]) -> Result<(), OutOfMemory>
     ensures { OnOk result (out.new.items ≡ out.old.items ++ bytes.now) }
 {
-    out.extend_from_slice(bytes).map_err(|_| OutOfMemory)
+    Ok(out.extend_from_slice(bytes)?)
 }
 
 fn instr_text(instr: &Instr) -> &'static [u8]

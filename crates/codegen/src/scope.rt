@@ -66,7 +66,7 @@ impl<'a> Scope<'a> {
             name: name.text.as_slice(),
             slot: self.next,
         };
-        self.locals.insert(0, local).map_err(|_| OutOfMemory)?;
+        self.locals.insert(0, local)?;
         self.next += 1;
         Ok(())
     }
@@ -75,7 +75,7 @@ impl<'a> Scope<'a> {
     pub(crate) fn within(&self, alloc: Global) -> Result<Scope<'a>, OutOfMemory>
         ensures { IfOk result (λ scope. scope ≡ self.now) }
     {
-        let locals = Vec::from_slice(alloc, &self.locals).map_err(|_| OutOfMemory)?;
+        let locals = Vec::from_slice(alloc, &self.locals)?;
         Ok(Scope {
             locals,
             next: self.next,

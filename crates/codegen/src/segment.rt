@@ -31,7 +31,7 @@ impl Segment {
         ensures instrs { OnOk result (self.new.instrs.items ≡ self.old.instrs.items ++ instr ∷ []) }
         ensures end { OnOk result (self.new.end ≡ self.old.end + width instr) }
     {
-        self.instrs.push(instr).map_err(|_| OutOfMemory)?;
+        self.instrs.push(instr)?;
         self.end += width(&instr);
         Ok(())
     }
@@ -52,9 +52,7 @@ impl Segment {
         ensures instrs { OnOk result (self.new.instrs.items ≡ self.old.instrs.items ++ more.instrs.items) }
         ensures end { OnOk result (self.new.end ≡ more.end) }
     {
-        self.instrs
-            .extend_from_slice(&more.instrs)
-            .map_err(|_| OutOfMemory)?;
+        self.instrs.extend_from_slice(&more.instrs)?;
         self.end = more.end;
         Ok(())
     }

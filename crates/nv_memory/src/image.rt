@@ -41,7 +41,7 @@ impl Image {
             n: opening.len() as u16,
             k,
         };
-        let words = blank_words(alloc, layout, opening, mode).map_err(|_| OutOfMemory)?;
+        let words = blank_words(alloc, layout, opening, mode)?;
         Ok(Image { layout, words })
     }
 

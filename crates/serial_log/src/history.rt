@@ -48,10 +48,8 @@ impl History {
         ensures reading_room { OnOk result (readings ≤ self.new.reading_room) }
         ensures roomier { IsRoomier self.old self.new }
     {
-        self.marks.reserve(marks as usize).map_err(|_| OutOfMemory)?;
-        self.readings
-            .reserve(readings as usize)
-            .map_err(|_| OutOfMemory)
+        self.marks.reserve(marks as usize)?;
+        Ok(self.readings.reserve(readings as usize)?)
     }
 
     /// Adds a mark. A commit's readings were recorded before. No memory is taken.

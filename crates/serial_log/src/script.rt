@@ -46,7 +46,7 @@ impl Periods {
         ensures added { OnOk result (self.new ≡ self.old ++ period ∷ []) }
         ensures stays { OnErr result (self.new ≡ self.old) }
     {
-        self.items.push(period).map_err(|_| OutOfMemory)
+        Ok(self.items.push(period)?)
     }
 
     /// The periods.
@@ -87,7 +87,7 @@ impl Postings {
         ensures added { OnOk result (self.new ≡ self.old ++ posting ∷ []) }
         ensures stays { OnErr result (self.new ≡ self.old) }
     {
-        self.items.push(posting).map_err(|_| OutOfMemory)
+        Ok(self.items.push(posting)?)
     }
 
     /// The postings.

@@ -23,7 +23,7 @@ impl NameText {
     pub fn from_slice(alloc: Global, bytes: &[u8]) -> Result<NameText, OutOfMemory>
         ensures { IfOk result (λ text. text ≡ bytes.now) }
     {
-        let bytes = Vec::from_slice(alloc, bytes).map_err(|_| OutOfMemory)?;
+        let bytes = Vec::from_slice(alloc, bytes)?;
         Ok(NameText { bytes })
     }
 

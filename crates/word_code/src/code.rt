@@ -99,7 +99,7 @@ fn reserve_one(ends: &mut Vec<usize>) -> Result<(), OutOfMemory>
     ensures same { ends.new.items ≡ ends.old.items }
     ensures room { OnOk result (vec_len ends.new < vec_capacity ends.new) }
 {
-    ends.reserve(1).map_err(|_| OutOfMemory)
+    Ok(ends.reserve(1)?)
 }
 
 // Where the body of a number begins: behind the body before.

@@ -34,7 +34,7 @@ pub(crate) fn append(out: &mut Vec<u16>, words: &[u16]) -> Result<(), OutOfMemor
     ensures ok { OnOk result (out.new.items ≡ out.old.items ++ words.now) }
     ensures err { OnErr result (out.new.items ≡ out.old.items) }
 {
-    out.extend_from_slice(words).map_err(|_| OutOfMemory)
+    Ok(out.extend_from_slice(words)?)
 }
 
 fn number(op: Op) -> u16

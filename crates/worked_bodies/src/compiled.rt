@@ -68,7 +68,7 @@ impl Compiled {
         let store = SerialStore::opening(alloc, &self.checked)?;
         let mut words = Vec::new(alloc);
         for word in 0..self.checked.words() {
-            words.push(store.get(word)).map_err(|_| OutOfMemory)?;
+            words.push(store.get(word))?;
         }
         Ok(words)
     }

@@ -69,7 +69,7 @@ fn keep(readings: &mut Vec<Reading>, turn: Turn) -> Result<Option<Ending>, OutOf
     ensures goes_on { IfOk result (λ end. IfNone end (HasNotEnded turn)) }
 {
     match turn {
-        Turn::Went(Some(reading)) => readings.push(reading).map_err(|_| OutOfMemory)?,
+        Turn::Went(Some(reading)) => readings.push(reading)?,
         Turn::Went(None) | Turn::Storing => {}
         Turn::Ended(ending) => return Ok(Some(ending)),
     }

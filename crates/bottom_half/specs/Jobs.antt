@@ -7,7 +7,11 @@ use Rattle.bottom_half.specs.declared.job.Job.{Job}
 
 -- the posting in a slot
 abbrev pub job_in : State → (slot : ℕ) → Job
-job_in s slot = record { event = (entry_at s slot).event; slot = slot; message = (entry_at s slot).message }
+job_in s slot = record {
+  event = (entry_at s slot).event;
+  slot = slot;
+  message = (entry_at s slot).message;
+}
 
 -- the posting in the first of several slots
 abbrev pub first_job : State → List ℕ → Option Job

@@ -14,7 +14,8 @@ doom_change = set_to doomed_seat 1
 
 -- the program goes back to the first task of the transaction, which isn't open any more
 abbrev pub restart_changes : State → List Change
-restart_changes s = set_to current_seat (first s) ∷ set_to opened_seat 0 ∷ set_to doomed_seat 0 ∷ []
+restart_changes s = set_to current_seat (first s) ∷ set_to opened_seat 0
+    ∷ set_to doomed_seat 0 ∷ []
 
 -- all that is changed where a transaction is aborted
 abbrev pub undo_changes : State → List Change

@@ -1,4 +1,5 @@
-//! What follows from the definitions: each function's contract is a law, and its body does nothing.
+//! What follows from the definitions: each function's contract is a law, and its body does
+//! nothing.
 
 ghost use Rattle.buffi_sets.specs.Flags.{FlagWritesSetOneFlag};
 ghost use Rattle.buffi_sets.specs.Undo.{DoomWritesKeep, UndoWritesKeep, UndosEnd};

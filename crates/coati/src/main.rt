@@ -12,7 +12,8 @@ use std::{env, io};
 #[cfg(test)]
 mod tests;
 
-/// The words of the command line without the program's name; none where one of them is no text, which names no command.
+/// The words of the command line without the program's name; none where one of them is no text,
+/// which names no command.
 fn words(rt: &(impl Env + AllocGlobal)) -> Result<Vec<String>, OutOfMemory> {
     let mut words = Vec::new(rt.alloc());
     match env::args(rt) {

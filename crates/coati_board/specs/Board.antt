@@ -66,7 +66,8 @@ pub record IsOpened (program : Program) (mode : Mode) (script : Script)
   pub cursors : board.device.cursors ≡ first_cursors script.postings
 
 -- a device before its first step, with room for all boots and for the End mark
-pub record IsFreshDevice (program : Program) (mode : Mode) (script : Script) (d : Device) : Type 0 where
+pub record IsFreshDevice (program : Program) (mode : Mode) (script : Script) (d : Device)
+    : Type 0 where
   pub fresh : IsFresh program mode script.power d
   pub cursors : d.cursors ≡ first_cursors script.postings
   pub spare : d.spare ≡ 0
@@ -90,7 +91,8 @@ IsBoardStep old new =
 
 -- a device's next posting is raised, and answered
 pub record IsRaise (old : Whole) (device : ℕ) (new : Whole) (answer : Answer) : Type 0 where
-  pub raised : Raises old.program (program_code old.program) old.script.power old.script.postings device
+  pub raised : Raises old.program (program_code old.program) old.script.power
+      old.script.postings device
       old.device new.device answer
   pub same : IsSameRun old new
 
@@ -104,7 +106,8 @@ pub record IsRefused (old new : Device) : Type 0 where
 -- the first posting of the script that is left; none where all are raised
 abbrev pub first_left : Whole → Option Posting
 first_left board =
-    slice_get board.script.postings (first_place board.device.cursors (length board.script.postings))
+    slice_get board.script.postings (first_place board.device.cursors
+    (length board.script.postings))
 
 -- how many postings a device has left
 abbrev pub left_of : Whole → ℕ → ℕ

@@ -7,8 +7,10 @@ use Rattle.coati_device.specs.Cursors.{first_cursor}
 -- each is at its first posting
 abbrev pub first_cursors : List Posting → List Cursor
 first_cursors postings =
-    first_cursor postings 0 ∷ first_cursor postings 1 ∷ first_cursor postings 2 ∷ first_cursor postings 3
-    ∷ first_cursor postings 4 ∷ first_cursor postings 5 ∷ first_cursor postings 6 ∷ first_cursor postings 7 ∷ []
+    first_cursor postings 0 ∷ first_cursor postings 1 ∷ first_cursor postings 2
+    ∷ first_cursor postings 3
+    ∷ first_cursor postings 4 ∷ first_cursor postings 5 ∷ first_cursor postings 6
+    ∷ first_cursor postings 7 ∷ []
 
 -- a posting is left to raise
 pub record HasPosting (postings : List Posting) (cursor : Cursor) : Type 0 where

@@ -43,7 +43,8 @@ CanHandStep code (Fill message part) d = CanFill message part d
 CanHandStep code Accept d = CanAccept d
 CanHandStep code Over d = ⊥
 
--- a posting of an event can be handled: the buffer has room, and there is time and room for the handler
+-- a posting of an event can be handled: the buffer has room, and there is time and room for the
+-- handler
 pub record CanHandle (program : Program) (event : ℕ) (d : Device) : Type 0 where
   pub accepted : IsAccepted program
   pub fit : Fits program d

@@ -144,7 +144,8 @@ impl Board {
         ensures full { (result ≡ Answer.Full) ↔ (is_full (state self.old.device.image) ≡ true) }
         ensures refused { result ≡ Answer.Full → IsRefused self.old.device self.new.device }
         ensures steps { self.new.device.steps ≡ self.old.device.steps }
-        ensures spare { self.old.device.spare ≤ self.new.device.spare + handler_bound self.old.program }
+        ensures spare { self.old.device.spare ≤ self.new.device.spare
+            + handler_bound self.old.program }
         ensures grows { IsPrefix self.old.device.history.marks self.new.device.history.marks }
         ensures kept { (committed : Record) → HasRecord self.old.device.history committed
             → readings_in self.new.device.history.readings committed
@@ -171,7 +172,8 @@ impl Board {
     /// The first posting of the script that is left to raise.
     pub fn first_left(&self) -> Option<Posting>
         ensures first { result ≡ first_left self.now }
-        ensures some { IfSome result (λ posting. (posting.device < 8) × (0 < left_of self.now posting.device)) }
+        ensures some { IfSome result (λ posting. (posting.device < 8)
+            × (0 < left_of self.now posting.device)) }
     {
         first_left(self.script.postings.as_slice(), &self.device.cursors)
     }
@@ -259,8 +261,8 @@ impl Board {
         &self.device.image
     }
 
-    /// The history: it is legal, memory stands for where it leads, its boots are at the ends of the
-    /// power periods, and events are served between units.
+    /// The history: it is legal, memory stands for where it leads, its boots are at the ends of
+    /// the power periods, and events are served between units.
     pub fn history(&self) -> &History
         ensures history { result.now ≡ self.now.device.history }
         ensures legal { IsLegalHistory (terms_of self.now.program self.now.mode)

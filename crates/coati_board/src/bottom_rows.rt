@@ -1,4 +1,5 @@
-//! The rows of the executor's table for the oldest held posting: its bottom half runs between the units, and is committed.
+//! The rows of the executor's table for the oldest held posting: its bottom half runs between the
+//! units, and is committed.
 
 ghost use Rattle.std.specs.Prelude.{◌≡◌, ◌+◌, ◌<◌, ◌≤◌, length, take};
 ghost use Rattle.nv_memory.specs.InRange.{InRange};
@@ -29,7 +30,8 @@ use task_syntax::BodyId;
 use word_code::Code;
 use word_cpu::{Cpu, Turn};
 
-/// The bottom half of the oldest held posting starts, once the log that one before has left in its entry is empty.
+/// The bottom half of the oldest held posting starts, once the log that one before has left in its
+/// entry is empty.
 pub fn choose_event(checked: &Checked, code: &Code, device: &mut Device, job: Job)
     requires range { InRange (state device.old.image) }
     requires chooses { ChoosesEvent device.old }
@@ -104,11 +106,13 @@ pub fn end_bottom_half(device: &mut Device)
     }
 }
 
-// The event is committed, and its record told: its posting is as far behind the last accepted one as postings are held.
+// The event is committed, and its record told: its posting is as far behind the last accepted one
+// as postings are held.
 fn commit_event(device: &mut Device)
     requires range { InRange (state device.old.image) }
     requires ends { EndsBottom device.old }
-    requires prepared { head_next (state device.old.image) ≡ position_after device.old.image.k (head (state device.old.image)) }
+    requires prepared { head_next (state device.old.image)
+        ≡ position_after device.old.image.k (head (state device.old.image)) }
     requires room { HasRoomToEnd device.old }
     requires few { held_count (state device.old.image) ≤ device.old.accepted }
     ensures { (program : Program) (code : Bodies) → IsRow program code device.old device.new }

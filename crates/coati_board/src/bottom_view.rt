@@ -12,8 +12,8 @@ use nv_memory::{Image, Log};
 use task_buffer::store_write;
 use word_cpu::View;
 
-/// The variable words as the bottom half of the oldest held posting sees them: the log of its entry, then the variables. It
-/// stores into that log.
+/// The variable words as the bottom half of the oldest held posting sees them: the log of its
+/// entry, then the variables. It stores into that log.
 #[derive(Drop)]
 pub struct BottomView<'a> {
     pub image: &'a mut Image,
@@ -27,8 +27,10 @@ impl<'a> View for BottomView<'a> {
     ghost meaning = { record {
       words = λ v. bottom_view.words v.image.now;
       begun = λ v word value part. bottom_view.begun v.image.now word value part;
-      loaded = λ old word new. (new.image.ghost_name ≡ old.image.ghost_name) × bottom_view.loaded old.image.now word new.image.now;
-      stored = λ old word value part new is_last. (new.image.ghost_name ≡ old.image.ghost_name) × bottom_view.stored old.image.now word value part new.image.now is_last;
+      loaded = λ old word new. (new.image.ghost_name ≡ old.image.ghost_name)
+          × bottom_view.loaded old.image.now word new.image.now;
+      stored = λ old word value part new is_last. (new.image.ghost_name ≡ old.image.ghost_name)
+          × bottom_view.stored old.image.now word value part new.image.now is_last;
     } };
 
     fn load(&mut self, word: u16) -> u16 {
@@ -59,8 +61,10 @@ fn store(image: &mut Image, word: u16, value: u16, part: u8) -> bool
     requires range { InRange (state image.old) }
     requires word { word < image.old.n }
     requires begun { IsBegun (state image.old) (head_log (state image.old)) word value part }
-    ensures stored { HasStoredIn (head_log (state image.old)) image.old word value part image.new result }
-    ensures made { Stores (head_log (state image.old)) word value part result (state image.old) (state image.new) }
+    ensures stored { HasStoredIn (head_log (state image.old)) image.old word value part image.new
+        result }
+    ensures made { Stores (head_log (state image.old)) word value part result (state image.old)
+        (state image.new) }
 {
     let (write, is_last) = store_write(image, own_log(image), word, value, part);
     put(image, write);

@@ -1,5 +1,5 @@
-//! The handler of a posting: its top half runs, what that gives is written into the buffer, and the posting is accepted. Each
-//! step is one machine step, behind which the power may be cut.
+//! The handler of a posting: its top half runs, what that gives is written into the buffer, and
+//! the posting is accepted. Each step is one machine step, behind which the power may be cut.
 
 ghost use Rattle.std.specs.Prelude.{◌≡◌, ◌↔◌, ◌<◌, ◌∷◌, ◌+◌, [], IsTrue, List, ℕ, length};
 ghost use Rattle.codegen.specs.Bodies.{program_code};
@@ -28,8 +28,8 @@ use word_code::Code;
 use word_code::laws::{following_goes_on, instructions_are_their_words};
 use word_cpu::{Cpu, Turn};
 
-/// The handler of a posting of an event, up to the step that decides and before that step's mark and time: the one that
-/// accepts the posting, or one behind which the power is cut.
+/// The handler of a posting of an event, up to the step that decides and before that step's mark
+/// and time: the one that accepts the posting, or one behind which the power is cut.
 pub fn handle(
     checked: &Checked,
     code: &Code,
@@ -103,7 +103,8 @@ fn step(code: &Code, device: &mut Device, event: u16, hand: Hand) -> Hand
 fn top_step(code: &Code, mut cpu: Cpu, mut words: Scratch) -> Hand
     requires { CanStepOnTop code.now cpu words }
     ensures { (after : Machine) × (changed : List ℕ) × (turn : Step)
-        × IsStep scratch_view code.now cpu after words changed turn × (result ≡ after_top after changed turn) }
+        × IsStep scratch_view code.now cpu after words changed turn
+        × (result ≡ after_top after changed turn) }
 {
     match cpu.step(code, &mut words) {
         Turn::Went(_reading) => Hand::Top(cpu, words),

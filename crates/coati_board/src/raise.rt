@@ -1,4 +1,5 @@
-//! A device raises its next posting: where the buffer is full it is refused at once, else its handler runs.
+//! A device raises its next posting: where the buffer is full it is refused at once, else its
+//! handler runs.
 
 ghost use Rattle.std.specs.Prelude.{◌≡◌, ◌+◌, ◌-◌, ◌^◌, ◌<◌, ◌≤◌, List, false, length};
 ghost use Rattle.codegen.specs.Bodies.{program_code};
@@ -27,7 +28,8 @@ pub fn raise(
 ) -> Answer
     requires code { code.now ≡ program_code checked.now }
     requires can { CanRaise checked.now script.now device.old number }
-    ensures { Raises checked.now code.now script.now.power script.now.postings number device.old device.new result }
+    ensures { Raises checked.now code.now script.now.power script.now.postings number device.old
+        device.new result }
 {
     let posting = upcoming(script, device, number);
     if is_full(&device.image) {
@@ -55,7 +57,8 @@ fn refuse(script: &Script, device: &mut Device, number: u8, posting: Posting)
     requires number { number < 8 }
     requires can { CanAnswer script.now.postings device.old number }
     requires spare { 0 < device.old.spare }
-    ensures { device.new ≡ answered script.now.postings number posting device.old.clock device.old.clock answer.Full
+    ensures { device.new ≡ answered script.now.postings number posting device.old.clock
+        device.old.clock answer.Full
         (record device.old { spare = device.old.spare - 1 }) }
 {
     let at = device.clock;
@@ -87,7 +90,8 @@ fn settle(
     requires spare { 0 < device.old.spare }
     requires marks { 1 < device.old.history.mark_room }
     ensures { device.new ≡ ticked script.now.power
-        (answered script.now.postings number posting from (device.old.clock + 1) given device.old) }
+        (answered script.now.postings number posting from (device.old.clock + 1) given
+        device.old) }
 {
     let at = device.clock + 1;
     answer(

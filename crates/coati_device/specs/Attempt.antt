@@ -1,5 +1,5 @@
--- The attempt under way: its task runs on the committed words, changed by the open transaction, and its log and its readings
--- are what the body has written and read so far.
+-- The attempt under way: its task runs on the committed words, changed by the open transaction,
+-- and its log and its readings are what the body has written and read so far.
 use Rattle.std.specs.Prelude.{ℕ, ◌≡◌, ◌<◌, List, length, Some}
 use Rattle.std.specs.Option.{unwrap_or}
 use Rattle.coati_word.specs.declared.ending.Ending.{Ending}
@@ -44,28 +44,35 @@ pub record HasMade (s : State) (read : List Reading) (done : List Access) : Type
   pub reads : read ≡ readings done
 
 -- the machine is under way in the task to run, with so many steps left at most
-pub record IsRunning (program : Program) (code : Bodies) (m : Memory) (read : List Reading) (cpu : Cpu) : Type 0 where
+pub record IsRunning (program : Program) (code : Bodies) (m : Memory) (read : List Reading)
+    (cpu : Cpu) : Type 0 where
   pub at : IsAtTask program (state m)
   pub body : cpu.body ≡ Task (current (state m))
   pub done : List Access
   pub made : HasMade (state m) read done
   pub left : ℕ
-  pub under_way : IsUnderWay task_view code cpu m left (task_course program (current (state m))) (base_word (state m)) done
+  pub under_way : IsUnderWay task_view code cpu m left (task_course program (current (state m)))
+      (base_word (state m)) done
 
 -- the task to run has ended, and the program goes on at this place
-pub record HasEnded (program : Program) (m : Memory) (read : List Reading) (place : ℕ) : Type 0 where
+pub record HasEnded (program : Program) (m : Memory) (read : List Reading) (place : ℕ)
+    : Type 0 where
   pub at : IsAtTask program (state m)
-  pub made : HasMade (state m) read (accesses (task_course program (current (state m))) (base_word (state m)))
-  pub leads : place ≡ place_after (answer (task_course program (current (state m))) (base_word (state m)))
+  pub made : HasMade (state m) read (accesses (task_course program (current (state m)))
+      (base_word (state m)))
+  pub leads : place ≡ place_after (answer (task_course program (current (state m)))
+      (base_word (state m)))
 
--- neither a commit nor an undo is under way, no transaction is open, and this is the oldest held posting
+-- neither a commit nor an undo is under way, no transaction is open, and this is the oldest held
+-- posting
 pub record IsAtPosting (s : State) (rest : List Held) : Type 0 where
   pub clear : IsClear s
   pub events : ComesToEvents s
   pub held : Held
   pub due : due_posting rest ≡ Some held
 
--- the bottom half has made accesses: the log of the entry at the head holds what they wrote, and they read this
+-- the bottom half has made accesses: the log of the entry at the head holds what they wrote, and
+-- they read this
 pub record HasMadeAtHead (s : State) (read : List Reading) (done : List Access) : Type 0 where
   pub log : (word : ℕ) → log_value s (head_log s) word ≡ last_written done word
   pub reads : read ≡ readings done
@@ -75,21 +82,26 @@ abbrev pub course_at : Program → Held → Course Ending
 course_at program held = event_course program held.event held.argument
 
 -- the machine is under way in the bottom half of the oldest held posting, on the committed words
-pub record IsInBottom (program : Program) (code : Bodies) (m : Memory) (rest : List Held) (read : List Reading) (cpu : Cpu) : Type 0 where
+pub record IsInBottom (program : Program) (code : Bodies) (m : Memory) (rest : List Held)
+    (read : List Reading) (cpu : Cpu) : Type 0 where
   pub at : IsAtPosting (state m) rest
   pub body : cpu.body ≡ Bottom at.held.event
   pub done : List Access
   pub made : HasMadeAtHead (state m) read done
   pub left : ℕ
-  pub under_way : IsUnderWay bottom_view code cpu m left (course_at program at.held) (committed_word (state m)) done
+  pub under_way : IsUnderWay bottom_view code cpu m left (course_at program at.held)
+      (committed_word (state m)) done
 
 -- the bottom half has ended
-pub record HasEndedBottom (program : Program) (m : Memory) (rest : List Held) (read : List Reading) : Type 0 where
+pub record HasEndedBottom (program : Program) (m : Memory) (rest : List Held) (read : List Reading)
+    : Type 0 where
   pub at : IsAtPosting (state m) rest
-  pub made : HasMadeAtHead (state m) read (accesses (course_at program at.held) (committed_word (state m)))
+  pub made : HasMadeAtHead (state m) read (accesses (course_at program at.held)
+      (committed_word (state m)))
 
 -- what a running machine says, by its body
-abbrev pub IsRunningIn : Program → Bodies → Memory → List Held → List Reading → Cpu → BodyId → Type 0
+abbrev pub IsRunningIn : Program → Bodies → Memory → List Held → List Reading → Cpu → BodyId →
+    Type 0
 IsRunningIn program code m rest read cpu (Task task) = IsRunning program code m read cpu
 IsRunningIn program code m rest read cpu (Top event) = ⊥
 IsRunningIn program code m rest read cpu (Bottom event) = IsInBottom program code m rest read cpu

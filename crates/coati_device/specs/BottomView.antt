@@ -1,5 +1,5 @@
--- What the bottom half of the posting at the head sees of memory, in mode split: its entry's log, then the variables. It
--- stores into that log.
+-- What the bottom half of the posting at the head sees of memory, in mode split: its entry's log,
+-- then the variables. It stores into that log.
 use Rattle.std.specs.Prelude.{ℕ, ◌≡◌, List}
 use Rattle.std.specs.Option.{unwrap_or}
 use Rattle.nv_memory.specs.declared.log.Log.{Log}
@@ -30,5 +30,6 @@ bottom_view = record {
   words = bottom_words;
   begun = λ m word value part. IsBegun (state m) (head_log (state m)) word value part;
   loaded = λ old word new. new ≡ old;
-  stored = λ old word value part new is_last. HasStoredIn (head_log (state old)) old word value part new is_last;
+  stored = λ old word value part new is_last. HasStoredIn (head_log (state old)) old word value
+      part new is_last;
 }

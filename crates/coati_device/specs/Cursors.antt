@@ -30,11 +30,16 @@ others device (posting ∷ more) = if posting.device == device then 0 else other
 
 -- how many postings are the device's
 abbrev pub count_of : ℕ → List Posting → ℕ
-count_of device postings = length (filter (λ (posting : Posting). posting.device == device) postings)
+count_of device postings = length (filter (λ (posting : Posting). posting.device == device)
+    postings)
 
 -- where a device is at first
 abbrev pub first_cursor : List Posting → ℕ → Cursor
-first_cursor postings device = record { at = others device postings; done = 0; left = count_of device postings }
+first_cursor postings device = record {
+  at = others device postings;
+  done = 0;
+  left = count_of device postings;
+}
 
 -- and behind its next posting
 abbrev pub moved : List Posting → ℕ → Cursor → Cursor
@@ -49,7 +54,8 @@ abbrev pub next_posting : List Posting → Device → ℕ → Posting
 next_posting postings d device = posting_at postings (cursor_of d.cursors device).at
 
 -- a posting was answered: its mark, and the device goes on to its next one
-abbrev pub answered : List Posting → (device : ℕ) → Posting → (from at : ℕ) → Answer → Device → Device
+abbrev pub answered : List Posting → (device : ℕ) → Posting → (from at : ℕ) → Answer → Device →
+    Device
 answered postings device posting from at answer d = record d {
   cursors = slice_set d.cursors device (moved postings device (cursor_of d.cursors device));
   history = with_mark d.history (record {
@@ -66,15 +72,18 @@ answered postings device posting from at answer d = record d {
 }
 
 -- a device has raised the first of its postings, and goes on at its next one
-pub record HasRaised (postings : List Posting) (marks : List Mark) (device : ℕ) (c : Cursor) : Type 0 where
+pub record HasRaised (postings : List Posting) (marks : List Mark) (device : ℕ) (c : Cursor)
+    : Type 0 where
   pub parts : of_device device (map sent_by postings)
-      ≡ of_device device (map sent_as (raised_postings marks)) ++ of_device device (map sent_by (drop c.at postings))
+      ≡ of_device device (map sent_as (raised_postings marks))
+      ++ of_device device (map sent_by (drop c.at postings))
   pub within : c.at ≤ length postings
   pub there : others device (drop c.at postings) ≡ 0
   pub done : c.done ≡ length (of_device device (map sent_as (raised_postings marks)))
   pub left : c.left ≡ count_of device (drop c.at postings)
 
 -- so have all of them
-pub record AreCursors (postings : List Posting) (marks : List Mark) (cursors : List Cursor) : Type 0 where
+pub record AreCursors (postings : List Posting) (marks : List Mark) (cursors : List Cursor)
+    : Type 0 where
   pub eight : length cursors ≡ 8
   pub each : (device : ℕ) → device < 8 → HasRaised postings marks device (cursor_of cursors device)

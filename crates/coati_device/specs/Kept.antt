@@ -43,12 +43,22 @@ record_of_unit of_tasks tasks from count =
 -- the record of an event's posting
 abbrev pub record_of_event : (event posting from count : ℕ) → Record
 record_of_event event posting from count =
-    record { unit = unit.Event event; tasks = 0; posting = posting; reads_from = from; reads_len = count }
+    record {
+      unit = unit.Event event;
+      tasks = 0;
+      posting = posting;
+      reads_from = from;
+      reads_len = count;
+    }
 
 -- the history with the commit of an event's posting that read this
 abbrev pub with_event : Past → (event posting : ℕ) → List Reading → ℕ → Past
 with_event past event posting reads at = record {
-  marks = past.marks ++ record { at = at; kind = Commit (record_of_event event posting (length past.readings) (length reads)) } ∷ [];
+  marks = past.marks ++ record {
+    at = at;
+    kind =
+        Commit (record_of_event event posting (length past.readings) (length reads));
+  } ∷ [];
   mark_room = past.mark_room - 1;
   readings = past.readings ++ reads;
   reading_room = past.reading_room - length reads;

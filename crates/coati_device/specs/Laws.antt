@@ -1,4 +1,5 @@
--- The laws of a device: each row keeps each point, and so does the time behind it. They are of mode split so far.
+-- The laws of a device: each row keeps each point, and so does the time behind it. They are of
+-- mode split so far.
 use Rattle.std.specs.Prelude.{ℕ, suc, ◌+◌, ◌-◌, ◌^◌, ◌<◌, ◌≤◌, ◌≡◌, List, [], All, length, slice_index}
 use mathlib.Core.List.{IsPrefix}
 use Rattle.coati_word.specs.declared.mode.Mode.{Mode}
@@ -41,7 +42,8 @@ use Rattle.coati_device.specs.Ticks.{ticked}
 -- memory and the attempt of a device fit where its history leads
 abbrev pub Fits : Program → Device → Type 0
 Fits program d =
-    IsFit program (program_code program) d.image (reads_of d) d.phase (standing_of program d.history.marks)
+    IsFit program (program_code program) d.image (reads_of d) d.phase
+    (standing_of program d.history.marks)
 
 -- what a row makes of a device, in a program
 abbrev pub Rows : Program → Device → Device → Type 0
@@ -51,16 +53,18 @@ Rows program old new = IsRow program (program_code program) old new
 abbrev pub AreCounted : Program → Device → Type 0
 AreCounted program d = (standing_of program d.history.marks).accepted ≡ d.accepted
 
--- after each row memory and the attempt fit where the history leads; an event's commit tells its posting by the number
--- of those that were accepted
+-- after each row memory and the attempt fit where the history leads; an event's commit tells its
+-- posting by the number of those that were accepted
 abbrev pub RowsKeepFit : Type 0
 RowsKeepFit =
-    (program : Program) (old new : Device) → IsAccepted program → Fits program old → AreCounted program old →
+    (program : Program) (old new : Device) → IsAccepted program → Fits program old →
+    AreCounted program old →
     Rows program old new → Fits program new
 
 -- a row accepts no posting
 abbrev pub RowsAcceptNone : Type 0
-RowsAcceptNone = (program : Program) (old new : Device) → Rows program old new → AreCounted program old →
+RowsAcceptNone = (program : Program) (old new : Device) → Rows program old new →
+    AreCounted program old →
     AreCounted program new
 
 -- the marks of each row are legal, and none is later than its time
@@ -68,7 +72,8 @@ abbrev pub RowsKeepLegal : Type 0
 RowsKeepLegal =
     (terms : Terms) (old new : Device) → IsAccepted terms.program → Fits terms.program old →
     AreCounted terms.program old →
-    IsLegalBy terms old.history old.clock → Rows terms.program old new → IsLegalBy terms new.history (old.clock + 1)
+    IsLegalBy terms old.history old.clock → Rows terms.program old new →
+    IsLegalBy terms new.history (old.clock + 1)
 
 -- events are served between units
 abbrev pub ServesEvents : Program → Device → Type 0
@@ -77,7 +82,8 @@ ServesEvents program d = ServesInTurn program (state d.image) d.phase d.history.
 -- and so they are after each row
 abbrev pub RowsKeepTurns : Type 0
 RowsKeepTurns =
-    (program : Program) (old new : Device) → Fits program old → ServesEvents program old → Rows program old new →
+    (program : Program) (old new : Device) → Fits program old → ServesEvents program old →
+    Rows program old new →
     ServesEvents program new
 
 -- what a row leaves
@@ -113,10 +119,12 @@ pub record AreRecordsGrown (old new : Device) : Type 0 where
 abbrev pub ArePeriods : List ℕ → Type 0
 ArePeriods periods = All (λ period. 1 ≤ period) periods
 
--- the time behind a step and its mark keeps what a device keeps: a boot is told exactly where a period is over
+-- the time behind a step and its mark keeps what a device keeps: a boot is told exactly where a
+-- period is over
 abbrev pub TicksKeepSound : Type 0
 TicksKeepSound =
-    (terms : Terms) (periods : List ℕ) (d : Device) → ArePeriods periods → IsAccepted terms.program →
+    (terms : Terms) (periods : List ℕ) (d : Device) → ArePeriods periods →
+    IsAccepted terms.program →
     IsSoundBy terms (program_code terms.program) periods (d.clock + 1) d →
     IsSound terms (program_code terms.program) periods (ticked periods d)
 
@@ -127,7 +135,8 @@ TicksKeepRoom =
     HasRoomFor steps periods d → HasRoomFor steps periods (ticked periods d)
 
 -- what a step keeps and changes
-pub record HasStepped (terms : Terms) (periods : List ℕ) (left : ℕ) (old new : Device) : Type 0 where
+pub record HasStepped (terms : Terms) (periods : List ℕ) (left : ℕ) (old new : Device)
+    : Type 0 where
   pub sound : IsSound terms (program_code terms.program) periods new
   pub room : HasRoomFor left periods new
   pub clock : new.clock ≡ old.clock + 1
@@ -138,9 +147,11 @@ pub record HasStepped (terms : Terms) (periods : List ℕ) (left : ℕ) (old new
 -- so each step does
 abbrev pub StepsKeepSound : Type 0
 StepsKeepSound =
-    (terms : Terms) (periods : List ℕ) (left : ℕ) (old new : Device) → ArePeriods periods → IsAccepted terms.program →
+    (terms : Terms) (periods : List ℕ) (left : ℕ) (old new : Device) → ArePeriods periods →
+    IsAccepted terms.program →
     IsSound terms (program_code terms.program) periods old → HasRoomFor (suc left) periods old →
-    IsStepOf terms.program (program_code terms.program) periods old new → HasStepped terms periods left old new
+    IsStepOf terms.program (program_code terms.program) periods old new →
+    HasStepped terms periods left old new
 
 -- the device before its first step
 pub record IsFresh (program : Program) (mode : Mode) (periods : List ℕ) (d : Device) : Type 0 where
@@ -177,7 +188,8 @@ SoundDevicesAreToldWell =
     IsSound terms (program_code terms.program) periods d → IsToldWell terms periods d
 
 -- a machine can make its step over a view
-pub record CanRunOver {V : Type 0} (meaning : Meaning V) (program : Program) (cpu : Cpu) (view : V) : Type 0 where
+pub record CanRunOver {V : Type 0} (meaning : Meaning V) (program : Program) (cpu : Cpu) (view : V)
+    : Type 0 where
   pub body : HasBody (program_code program) cpu.body
   pub few : length (meaning.words view) ≤ 2 ^ 16
   pub ready : IsReady meaning (program_code program) cpu view
@@ -193,7 +205,8 @@ CanRun program d cpu = CanRunBody program d.image cpu cpu.body
 
 abbrev pub RunningMachinesCanRun : Type 0
 RunningMachinesCanRun =
-    (program : Program) (d : Device) (cpu : Cpu) → IsAccepted program → Fits program d → d.phase ≡ Run cpu →
+    (program : Program) (d : Device) (cpu : Cpu) → IsAccepted program → Fits program d →
+    d.phase ≡ Run cpu →
     CanRun program d cpu
 
 -- a handler makes so many machine steps at most
@@ -201,7 +214,8 @@ abbrev pub handler_steps : Program → ℕ
 handler_steps program = handler_bound program
 
 -- what a raised posting keeps and changes
-pub record HasRaisedOne (terms : Terms) (periods : List ℕ) (postings : List Posting) (old new : Device) : Type 0 where
+pub record HasRaisedOne (terms : Terms) (periods : List ℕ) (postings : List Posting)
+    (old new : Device) : Type 0 where
   pub sound : IsSound terms (program_code terms.program) periods new
   pub cursors : AreCursors postings new.history.marks new.cursors
   pub room : HasRoomFor new.spare periods new
@@ -213,11 +227,15 @@ pub record HasRaisedOne (terms : Terms) (periods : List ℕ) (postings : List Po
 -- so does each: the history is to be judged by the bound of handlers
 abbrev pub RaisesKeepSound : Type 0
 RaisesKeepSound =
-    (terms : Terms) (periods : List ℕ) (postings : List Posting) (device : ℕ) (old new : Device) (answer : Answer) →
-    ArePeriods periods → IsAccepted terms.program → handler_steps terms.program ≤ terms.handler → device < 8 →
-    0 < (cursor_of old.cursors device).left → (next_posting postings old device).event < length terms.program.events →
+    (terms : Terms) (periods : List ℕ) (postings : List Posting) (device : ℕ) (old new : Device)
+    (answer : Answer) →
+    ArePeriods periods → IsAccepted terms.program → handler_steps terms.program ≤ terms.handler →
+    device < 8 →
+    0 < (cursor_of old.cursors device).left →
+    (next_posting postings old device).event < length terms.program.events →
     handler_steps terms.program ≤ old.spare →
-    IsSound terms (program_code terms.program) periods old → AreCursors postings old.history.marks old.cursors →
+    IsSound terms (program_code terms.program) periods old →
+    AreCursors postings old.history.marks old.cursors →
     HasRoomFor old.spare periods old →
     Raises terms.program (program_code terms.program) periods postings device old new answer →
     HasRaisedOne terms periods postings old new

@@ -1,5 +1,6 @@
--- The open unit: a transaction some of whose tasks are finished. Its log and the readings kept for it are what these tasks did
--- from the committed words on, and the task to run is the one behind them. While a task is merged, its part counts already.
+-- The open unit: a transaction some of whose tasks are finished. Its log and the readings kept for
+-- it are what these tasks did from the committed words on, and the task to run is the one behind
+-- them. While a task is merged, its part counts already.
 use Rattle.std.specs.Prelude.{ℕ, ◌≡◌, ◌==◌, ◌<◌, ◌⊎◌, List, [], length, Bool, true, false, ◌||◌, None, Some, if◌then◌else◌}
 use Rattle.coati_word.specs.declared.reading.Reading.{Reading}
 use Rattle.task_syntax.specs.declared.program.Program.{Program}
@@ -17,8 +18,10 @@ use Rattle.commit_log.specs.OpenUnit.{unit_log, unit_next}
 abbrev pub has_unit : State → Bool
 has_unit s = if mark s == 2 then false else (mark s == 1 || opened s == 1)
 
--- so many tasks of the unit at the stand's place are finished, and the unit goes on inside its transaction
-pub record HasFinished (program : Program) (s : State) (stand : Stand) (read : List Reading) (finished : ℕ) : Type 0 where
+-- so many tasks of the unit at the stand's place are finished, and the unit goes on inside its
+-- transaction
+pub record HasFinished (program : Program) (s : State) (stand : Stand) (read : List Reading)
+    (finished : ℕ) : Type 0 where
   pub reached : Reached
   pub tasks : tasks_effect program stand.place stand.store finished ≡ Some reached
   pub log : (word : ℕ) → unit_log s word ≡ last_written reached.done word
@@ -39,6 +42,8 @@ UnitFits program s stand read finished false = HasNoneFinished read finished
 abbrev pub OpenUnitFits : Program → State → Stand → List Reading → ℕ → Type 0
 OpenUnitFits program s stand read finished = UnitFits program s stand read finished (has_unit s)
 
--- a unit may begin at the place: behind the last task none does, else a lone task or the first of a transaction
+-- a unit may begin at the place: behind the last task none does, else a lone task or the first of
+-- a transaction
 abbrev pub IsUnitPlace : Program → ℕ → Type 0
-IsUnitPlace program place = (place ≡ halt) ⊎ ((place < length (tasks program)) × (midst_of_task program place ≡ None))
+IsUnitPlace program place = (place ≡ halt) ⊎ ((place < length (tasks program))
+    × (midst_of_task program place ≡ None))

@@ -1,5 +1,5 @@
--- What a device keeps, point by point. Each point is said of parts of the device, so that a cut of power, which makes the
--- phase `Choose`, leaves all that memory stands for.
+-- What a device keeps, point by point. Each point is said of parts of the device, so that a cut of
+-- power, which makes the phase `Choose`, leaves all that memory stands for.
 use Rattle.std.specs.Prelude.{ℕ, ◌+◌, ◌-◌, ◌^◌, ◌<◌, ◌≤◌, ◌≡◌, List, [], ◌∷◌, length, take, slice_get, sum, All, None, true, ◌⊎◌}
 use Rattle.std.specs.Option.{option_map_or}
 use Rattle.coati_word.specs.declared.reading.Reading.{Reading}
@@ -43,7 +43,8 @@ pub record IsMemoryOf (program : Program) (m : Memory) : Type 0 where
 
 -- what the top half of a posting's event gives
 abbrev pub message_to : Program → Held → List ℕ
-message_to program held = option_map_or (λ event. message program event held.argument) (slice_get program.events held.event) []
+message_to program held = option_map_or (λ event. message program event held.argument)
+    (slice_get program.events held.event) []
 
 -- an entry has its posting's event, which is one of the program's, and its message
 pub record IsEntryOf (program : Program) (entry : Entry) (held : Held) : Type 0 where
@@ -56,7 +57,8 @@ abbrev pub AreHeld : Program → List Entry → List Held → Type 0
 AreHeld program [] [] = Unit {0}
 AreHeld program [] (held ∷ more) = ⊥
 AreHeld program (entry ∷ entries) [] = ⊥
-AreHeld program (entry ∷ entries) (held ∷ more) = IsEntryOf program entry held × AreHeld program entries more
+AreHeld program (entry ∷ entries) (held ∷ more) = IsEntryOf program entry held
+    × AreHeld program entries more
 
 -- memory stands for where the history leads
 pub record StandsFor (program : Program) (s : State) (standing : Standing) : Type 0 where
@@ -83,8 +85,10 @@ pub record AreLastAccepted (standing : Standing) : Type 0 where
   pub few : length standing.rest ≤ standing.accepted
   pub numbered : AreNumberedFrom (standing.accepted + 1 - length standing.rest) standing.rest
 
--- memory, the open unit and the attempt fit where the history leads; in mode split no unit is given up
-pub record IsFit (program : Program) (code : Bodies) (m : Memory) (reads : Reads) (phase : Phase) (standing : Standing) : Type 0 where
+-- memory, the open unit and the attempt fit where the history leads; in mode split no unit is
+-- given up
+pub record IsFit (program : Program) (code : Bodies) (m : Memory) (reads : Reads) (phase : Phase)
+    (standing : Standing) : Type 0 where
   pub memory : IsMemoryOf program m
   pub not_doomed : doomed (state m) ≡ 0
   pub stands : StandsFor program (state m) standing
@@ -100,7 +104,8 @@ pub record IsLegalBy (terms : Terms) (past : Past) (at : ℕ) : Type 0 where
   pub booted : (standing_of terms.program past.marks).lost ≡ None
   pub latest : (standing_of terms.program past.marks).latest ≤ at
 
--- The clock is within the power period behind the last boot: the periods before it are over, and so many steps are left of it.
+-- The clock is within the power period behind the last boot: the periods before it are over, and
+-- so many steps are left of it.
 pub record IsTimed (periods : List ℕ) (clock boots until : ℕ) : Type 0 where
   pub few : boots ≤ length periods
   pub past : sum (take boots periods) ≤ clock
@@ -109,7 +114,8 @@ pub record IsTimed (periods : List ℕ) (clock boots until : ℕ) : Type 0 where
   pub behind : boots ≡ length periods → until ≡ 0
 
 -- the boots of the history are those of the periods that are over
-pub record AreBootsTold (periods : List ℕ) (boots : ℕ) (program : Program) (past : Past) : Type 0 where
+pub record AreBootsTold (periods : List ℕ) (boots : ℕ) (program : Program) (past : Past)
+    : Type 0 where
   pub times : boot_times past.marks ≡ take boots (ends_from 0 periods)
   pub counted : (standing_of program past.marks).boots ≡ boots
   pub last : (standing_of program past.marks).last_boot ≡ sum (take boots periods)
@@ -120,7 +126,8 @@ pub record HasRoomFor (steps : ℕ) (periods : List ℕ) (d : Device) : Type 0 w
   pub attempt : steps ≤ d.attempt.room
   pub unit : length d.attempt.items + steps ≤ d.unit.room
   pub records : length d.unit.items + length d.attempt.items + steps ≤ d.history.reading_room
-  pub few : length d.history.readings + length d.unit.items + length d.attempt.items + steps < 2 ^ 32
+  pub few : length d.history.readings + length d.unit.items + length d.attempt.items
+      + steps < 2 ^ 32
 
 abbrev pub IsBodyOfTask : BodyId → Type 0
 IsBodyOfTask (Task task) = Unit {0}
@@ -134,18 +141,22 @@ IsOfTask (Run cpu) = IsBodyOfTask cpu.body
 IsOfTask (End place) = Unit {0}
 IsOfTask EndBottom = ⊥
 
--- In mode split events are served between units: while a task is under way or a unit is open, each posting that waits came
--- after the last commit of a task or transaction.
-pub record ServesInTurn (program : Program) (s : State) (phase : Phase) (marks : List Mark) : Type 0 where
+-- In mode split events are served between units: while a task is under way or a unit is open, each
+-- posting that waits came after the last commit of a task or transaction.
+pub record ServesInTurn (program : Program) (s : State) (phase : Phase) (marks : List Mark)
+    : Type 0 where
   pub serves : ServesBetweenUnits program marks
   pub same : (settled_of program marks).standing ≡ standing_of program marks
   pub settled : (settled_of program marks).settled ≤ (standing_of program marks).accepted
   pub later : IsOfTask phase ⊎ (has_unit s ≡ true) →
-      All (λ held. (settled_of program marks).settled < held.number) (standing_of program marks).rest
+      All (λ held. (settled_of program marks).settled < held.number)
+      (standing_of program marks).rest
 
 -- what a device keeps, where no mark is later than this
-pub record IsSoundBy (terms : Terms) (code : Bodies) (periods : List ℕ) (at : ℕ) (d : Device) : Type 0 where
-  pub fit : IsFit terms.program code d.image (reads_of d) d.phase (standing_of terms.program d.history.marks)
+pub record IsSoundBy (terms : Terms) (code : Bodies) (periods : List ℕ) (at : ℕ) (d : Device)
+    : Type 0 where
+  pub fit : IsFit terms.program code d.image (reads_of d) d.phase
+      (standing_of terms.program d.history.marks)
   pub legal : IsLegalBy terms d.history at
   pub turns : ServesInTurn terms.program (state d.image) d.phase d.history.marks
   pub accepted : (standing_of terms.program d.history.marks).accepted ≡ d.accepted

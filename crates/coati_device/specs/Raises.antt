@@ -1,5 +1,6 @@
--- What a raised posting comes to. Where the buffer is full it is refused at once. Else its handler runs, one machine step after
--- another, each with its time, up to the write that accepts the posting, or to the cut of power that loses it.
+-- What a raised posting comes to. Where the buffer is full it is refused at once. Else its handler
+-- runs, one machine step after another, each with its time, up to the write that accepts the
+-- posting, or to the cut of power that loses it.
 use Rattle.std.specs.Prelude.{ℕ, ◌+◌, ◌-◌, ◌==◌, ◌≡◌, ◌≢◌, List, [], ◌∷◌, length, replicate, true, false, if◌then◌else◌}
 use Rattle.task_syntax.specs.declared.program.Program.{Program}
 use Rattle.task_syntax.specs.declared.body.BodyId.TheVariants as body
@@ -26,7 +27,8 @@ use Rattle.coati_device.specs.ScratchView.{scratch_view}
 use Rattle.coati_device.specs.TaskView.{HasWritten}
 use Rattle.coati_device.specs.Ticks.{passed, ticked}
 
--- what a step of the top half makes of the handler: behind it the posting is written with the message that it gave
+-- what a step of the top half makes of the handler: behind it the posting is written with the
+-- message that it gave
 abbrev pub after_top : Cpu → List ℕ → Turn → Hand
 after_top cpu words (Went reading) = Top cpu words
 after_top cpu words Storing = Top cpu words
@@ -37,14 +39,18 @@ abbrev pub after_fill : List ℕ → ℕ → Hand
 after_fill message part = if part == length message + 1 then Accept else Fill message (part + 1)
 
 -- one machine step of a handler of an event, before its time
-pub data IsHandStep (code : Bodies) (event : ℕ) (hand : Hand) (old : Device) (next : Hand) (new : Device) : Type 0 where
+pub data IsHandStep (code : Bodies) (event : ℕ) (hand : Hand) (old : Device) (next : Hand)
+    (new : Device) : Type 0 where
   tops : (before after : Cpu) (words changed : List ℕ) (turn : Turn) → hand ≡ Top before words →
-      IsStep scratch_view code before after words changed turn → new ≡ old → next ≡ after_top after changed turn →
+      IsStep scratch_view code before after words changed turn → new ≡ old →
+      next ≡ after_top after changed turn →
       IsHandStep code event hand old next new
   fills : (message : List ℕ) (part : ℕ) (image : Memory) → hand ≡ Fill message part →
       HasWritten old.image (fill_change (tail_slot (state old.image)) event message part) image →
-      new ≡ record old { image = image } → next ≡ after_fill message part → IsHandStep code event hand old next new
-  accepts : (image : Memory) → hand ≡ Accept → HasWritten old.image (accept_change (state old.image)) image →
+      new ≡ record old { image = image } → next ≡ after_fill message part →
+      IsHandStep code event hand old next new
+  accepts : (image : Memory) → hand ≡ Accept →
+      HasWritten old.image (accept_change (state old.image)) image →
       new ≡ record old { image = image; accepted = old.accepted + 1 } → next ≡ Over →
       IsHandStep code event hand old next new
 
@@ -52,14 +58,16 @@ module _ (code : Bodies) (event : ℕ) (first : Hand) (start : Device) where
   -- so far the handler has come by steps none of which was its last or was followed by a cut
   pub data Ran : Hand → Device → Type 0 where
     begins : Ran first start
-    goes_on : {hand next : Hand} {d mid : Device} → Ran hand d → IsHandStep code event hand d next mid → next ≢ Over →
+    goes_on : {hand next : Hand} {d mid : Device} → Ran hand d →
+        IsHandStep code event hand d next mid → next ≢ Over →
         mid.until ≢ 1 → Ran next (passed mid)
 
   -- the step that decides was made: it accepted the posting, or a cut follows another step
   pub data Handles (new : Device) (answer : Answer) : Type 0 where
     takes : (hand : Hand) (d : Device) → Ran hand d → IsHandStep code event hand d Over new →
         answer ≡ Accepted new.accepted → Handles new answer
-    loses : (hand next : Hand) (d : Device) → Ran hand d → IsHandStep code event hand d next new → next ≢ Over →
+    loses : (hand next : Hand) (d : Device) → Ran hand d → IsHandStep code event hand d next new →
+        next ≢ Over →
         new.until ≡ 1 → answer ≡ Lost (new.boots + 1) → Handles new answer
 
 -- where a handler begins: its top half on the posting's argument, with words that are all 0
@@ -67,14 +75,18 @@ abbrev pub first_hand : Program → Cpu → Hand
 first_hand program cpu = Top cpu (replicate (word_count program.vars) 0)
 
 -- a device's next posting is raised
-pub data Raises (program : Program) (code : Bodies) (periods : List ℕ) (postings : List Posting) (device : ℕ) (old new : Device)
+pub data Raises (program : Program) (code : Bodies) (periods : List ℕ) (postings : List Posting)
+    (device : ℕ) (old new : Device)
     (answer : Answer) : Type 0 where
   fulls : is_full (state old.image) ≡ true → answer ≡ Full →
       new ≡ answered postings device (next_posting postings old device) old.clock old.clock Full
       (record old { spare = old.spare - 1 }) →
       Raises program code periods postings device old new answer
   handles : (cpu : Cpu) (decided : Device) → is_full (state old.image) ≡ false →
-      IsAtStart (body.Top (next_posting postings old device).event) ((next_posting postings old device).argument ∷ []) cpu →
-      Handles code (next_posting postings old device).event (first_hand program cpu) old decided answer →
-      new ≡ ticked periods (answered postings device (next_posting postings old device) old.clock (decided.clock + 1) answer decided) →
+      IsAtStart (body.Top (next_posting postings old device).event)
+      ((next_posting postings old device).argument ∷ []) cpu →
+      Handles code (next_posting postings old device).event (first_hand program cpu) old decided
+      answer →
+      new ≡ ticked periods (answered postings device (next_posting postings old device) old.clock
+      (decided.clock + 1) answer decided) →
       Raises program code periods postings device old new answer

@@ -1,4 +1,5 @@
--- What one step of the executor does, before its time: the first of these that applies. It writes at most one word of memory.
+-- What one step of the executor does, before its time: the first of these that applies. It writes
+-- at most one word of memory.
 use Rattle.std.specs.Prelude.{ℕ, ◌+◌, ◌-◌, ◌<◌, ◌≡◌, ◌≢◌, ◌⊎◌, List, [], ◌++◌, true, false, Some, length, slice_get, take}
 use Rattle.std.specs.Option.{option_map_or}
 use Rattle.task_syntax.specs.declared.program.Program.{Program}
@@ -73,7 +74,8 @@ abbrev pub head_entry : State → Entry
 head_entry s = entry_at s (head_slot s)
 
 abbrev pub params_of : Program → ℕ → ℕ
-params_of program event = option_map_or (λ (declared : Event). length declared.params) (slice_get program.events event) 0
+params_of program event = option_map_or (λ (declared : Event). length declared.params)
+    (slice_get program.events event) 0
 
 abbrev pub head_message : Program → State → List ℕ
 head_message program s = take (params_of program (head_entry s).event) (head_entry s).message
@@ -99,37 +101,51 @@ phase_after cpu (Ended ending) = End (place_after ending)
 pub data IsRow (program : Program) (code : Bodies) (old new : Device) : Type 0 where
   -- a commit is under way: its next write
   applies : (change : Change) (image : Memory) →
-      first_undone (state old.image) (commit_changes (state old.image)) ≡ Some change → HasWritten old.image change image →
+      first_undone (state old.image) (commit_changes (state old.image)) ≡ Some change →
+      HasWritten old.image change image →
       new ≡ record old { image = image } → IsRow program code old new
   -- a transaction is aborted: the next write of its undo
   undoes : (change : Change) (image : Memory) → mark (state old.image) ≡ 0 →
-      first_undone (state old.image) (undo_changes (state old.image)) ≡ Some change → HasWritten old.image change image →
+      first_undone (state old.image) (undo_changes (state old.image)) ≡ Some change →
+      HasWritten old.image change image →
       new ≡ record old { image = image } → IsRow program code old new
   -- nothing is to do
   sleeps : Chooses old → current (state old.image) ≡ halt → new ≡ old → IsRow program code old new
   -- a log that an attempt before has left is emptied
   empties : (image : Memory) → Chooses old → current (state old.image) ≢ halt →
-      0 < log_length (state old.image) log.Task → HasWritten old.image (set_to (seats_of log.Task).length 0) image →
+      0 < log_length (state old.image) log.Task →
+      HasWritten old.image (set_to (seats_of log.Task).length 0) image →
       new ≡ record old { image = image } → IsRow program code old new
   -- the task to run starts
-  starts : (cpu : Cpu) → Chooses old → current (state old.image) ≢ halt → log_length (state old.image) log.Task ≡ 0 →
+  starts : (cpu : Cpu) → Chooses old → current (state old.image) ≢ halt →
+      log_length (state old.image) log.Task ≡ 0 →
       IsAtStart (Task (current (state old.image))) [] cpu →
-      new ≡ record old { phase = Run cpu; attempt = emptied old.attempt } → IsRow program code old new
+      new ≡ record old { phase = Run cpu; attempt = emptied old.attempt } →
+      IsRow program code old new
   -- the machine makes a step in the task
   runs : (before after : Cpu) (image : Memory) (turn : Turn) → old.phase ≡ Run before →
       before.body ≡ Task (current (state old.image)) → IsClear (state old.image) →
       IsStep task_view code before after old.image image turn →
-      new ≡ record old { image = image; phase = phase_after after turn; attempt = after_turn old.attempt turn } →
+      new ≡ record old {
+        image = image;
+        phase = phase_after after turn;
+        attempt = after_turn old.attempt turn;
+      } →
       IsRow program code old new
   -- the place behind a task that has ended is written
   prepares : (place : ℕ) (image : Memory) → Ends old place → next (state old.image) ≢ place →
-      HasWritten old.image (set_to next_seat place) image → new ≡ record old { image = image } → IsRow program code old new
+      HasWritten old.image (set_to next_seat place) image → new ≡ record old { image = image } →
+      IsRow program code old new
   -- a member of a transaction is done, and the transaction goes on: it is merged
   joins : (place : ℕ) (image : Memory) → Ends old place → next (state old.image) ≡ place →
-      is_inside program (current (state old.image)) place ≡ true → HasWritten old.image (set_to mark_seat 1) image →
+      is_inside program (current (state old.image)) place ≡ true →
+      HasWritten old.image (set_to mark_seat 1) image →
       new ≡ record old {
         image = image;
-        history = with_mark old.history (record { at = old.clock + 1; kind = Done (current (state old.image)) });
+        history = with_mark old.history (record {
+          at = old.clock + 1;
+          kind = Done (current (state old.image));
+        });
         unit = adding old.unit old.attempt.items;
         finished = old.finished + 1;
         attempt = emptied old.attempt;
@@ -137,10 +153,12 @@ pub data IsRow (program : Program) (code : Bodies) (old new : Device) : Type 0 w
       } → IsRow program code old new
   -- a unit is whole: it is committed
   commits : (place : ℕ) (image : Memory) → Ends old place → next (state old.image) ≡ place →
-      is_inside program (current (state old.image)) place ≡ false → HasWritten old.image (set_to mark_seat 2) image →
+      is_inside program (current (state old.image)) place ≡ false →
+      HasWritten old.image (set_to mark_seat 2) image →
       new ≡ record old {
         image = image;
-        history = with_commit old.history (unit_of (transaction_of program (current (state old.image))) (current (state old.image)))
+        history = with_commit old.history (unit_of
+            (transaction_of program (current (state old.image))) (current (state old.image)))
             (old.finished + 1) (old.unit.items ++ old.attempt.items) (old.clock + 1);
         unit = emptied old.unit;
         finished = 0;
@@ -148,25 +166,36 @@ pub data IsRow (program : Program) (code : Bodies) (old new : Device) : Type 0 w
         phase = Choose;
       } → IsRow program code old new
   -- the log that a bottom half before has left in the entry at the head is emptied
-  empties_entry : (image : Memory) → ChoosesEvent old → 0 < log_length (state old.image) (head_log (state old.image)) →
+  empties_entry : (image : Memory) → ChoosesEvent old →
+      0 < log_length (state old.image) (head_log (state old.image)) →
       HasWritten old.image (set_to (seats_of (head_log (state old.image))).length 0) image →
       new ≡ record old { image = image } → IsRow program code old new
   -- the bottom half of the oldest held posting starts on its message
-  starts_bottom : (cpu : Cpu) → ChoosesEvent old → log_length (state old.image) (head_log (state old.image)) ≡ 0 →
-      IsAtStart (Bottom (head_entry (state old.image)).event) (head_message program (state old.image)) cpu →
-      new ≡ record old { phase = Run cpu; attempt = emptied old.attempt } → IsRow program code old new
+  starts_bottom : (cpu : Cpu) → ChoosesEvent old →
+      log_length (state old.image) (head_log (state old.image)) ≡ 0 →
+      IsAtStart (Bottom (head_entry (state old.image)).event)
+      (head_message program (state old.image)) cpu →
+      new ≡ record old { phase = Run cpu; attempt = emptied old.attempt } →
+      IsRow program code old new
   -- the machine makes a step in the bottom half
   runs_bottom : (before after : Cpu) (image : Memory) (turn : Turn) → old.phase ≡ Run before →
-      before.body ≡ Bottom (head_entry (state old.image)).event → IsClear (state old.image) → ComesToEvents (state old.image) →
+      before.body ≡ Bottom (head_entry (state old.image)).event → IsClear (state old.image) →
+      ComesToEvents (state old.image) →
       IsStep bottom_view code before after old.image image turn →
-      new ≡ record old { image = image; phase = phase_of_bottom after turn; attempt = after_turn old.attempt turn } →
+      new ≡ record old {
+        image = image;
+        phase = phase_of_bottom after turn;
+        attempt = after_turn old.attempt turn;
+      } →
       IsRow program code old new
   -- the position behind the head is written
   prepares_event : (image : Memory) → EndsBottom old →
       head_next (state old.image) ≢ position_after old.image.k (head (state old.image)) →
-      HasWritten old.image (prepare_change (state old.image)) image → new ≡ record old { image = image } →
+      HasWritten old.image (prepare_change (state old.image)) image →
+      new ≡ record old { image = image } →
       IsRow program code old new
-  -- the event is committed; its posting is as far behind the last accepted one as postings are held
+  -- the event is committed; its posting is as far behind the last accepted one as postings are
+  -- held
   commits_event : (image : Memory) → EndsBottom old →
       head_next (state old.image) ≡ position_after old.image.k (head (state old.image)) →
       HasWritten old.image (set_to mark_seat 3) image →
@@ -179,7 +208,8 @@ pub data IsRow (program : Program) (code : Bodies) (old new : Device) : Type 0 w
       } → IsRow program code old new
 
 -- a step of the executor: a row, and its time
-pub record IsStepOf (program : Program) (code : Bodies) (periods : List ℕ) (old new : Device) : Type 0 where
+pub record IsStepOf (program : Program) (code : Bodies) (periods : List ℕ) (old new : Device)
+    : Type 0 where
   pub acted : Device
   pub row : IsRow program code old acted
   pub time : new ≡ ticked periods (record acted { steps = acted.steps + 1 })

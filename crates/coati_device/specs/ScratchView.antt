@@ -1,5 +1,5 @@
--- What a top half sees: words that are no variables. It touches none of them; that it has them makes its machine the same as
--- every other.
+-- What a top half sees: words that are no variables. It touches none of them; that it has them
+-- makes its machine the same as every other.
 use Rattle.std.specs.Prelude.{ℕ, ◌≡◌, List, slice_set}
 use Rattle.word_cpu.specs.Meaning.{Meaning}
 

@@ -1,5 +1,6 @@
--- What a running task sees of memory: its own log, then the open transaction's, then the variables. It stores into its log.
--- In mode buffi a read from the variables sets the attempt's flag of the word.
+-- What a running task sees of memory: its own log, then the open transaction's, then the
+-- variables. It stores into its log. In mode buffi a read from the variables sets the attempt's
+-- flag of the word.
 use Rattle.std.specs.Prelude.{ℕ, zero, suc, ◌≡◌, ◌==◌, List, [], ◌∷◌, Bool, not, is_some, ◌&&◌, ◌||◌, Option, Some, None, if◌then◌else◌}
 use Rattle.std.specs.Option.{unwrap_or}
 use Rattle.nv_memory.specs.declared.log.Log.{Log}
@@ -46,7 +47,8 @@ abbrev pub load_change : State → ℕ → Option Change
 load_change s word = if needs_flag s word then Some (flag_change word) else None
 
 -- a part of a store into a log was made
-pub record HasStoredIn (own : Log) (old : Memory) (word value part : ℕ) (new : Memory) (is_last : Bool) : Type 0 where
+pub record HasStoredIn (own : Log) (old : Memory) (word value part : ℕ) (new : Memory)
+    (is_last : Bool) : Type 0 where
   pub wrote : HasWritten old (store_change (state old) own word value part) new
   pub last : is_last ≡ store_ends (state old) own word part
 

@@ -1,5 +1,6 @@
--- The time of a machine step: the clock goes on by one. Where a power period is over then, the power is cut and comes back:
--- what is volatile is lost, and a boot is told, behind the step's own mark.
+-- The time of a machine step: the clock goes on by one. Where a power period is over then, the
+-- power is cut and comes back: what is volatile is lost, and a boot is told, behind the step's own
+-- mark.
 use Rattle.std.specs.Prelude.{ℕ, ◌+◌, ◌-◌, ◌==◌, List, slice_index, if◌then◌else◌}
 use Rattle.serial_log.specs.declared.mark.MarkKind.TheVariants.{Boot}
 use Rattle.serial_log.specs.History.{with_mark}

@@ -1,4 +1,5 @@
-//! What follows from the definitions: each function's contract is a law, and its body does nothing.
+//! What follows from the definitions: each function's contract is a law, and its body does
+//! nothing.
 
 ghost use Rattle.coati_device.specs.Laws.{FreshDevicesAreSound, RowsAcceptNone, RowsKeepFit, RowsKeepLegal, RowsKeepTurns, RowsLeaveTime, RowsTakeOneRoom, RowsTellNoBoot, RunningMachinesCanRun, SoundDevicesAreToldWell, StepsKeepSound, TicksKeepRoom, TicksKeepSound};
 
@@ -13,7 +14,8 @@ use task_buffer::laws::stores_set_the_value;
 use task_syntax::laws::{accesses_join_up, courses_under_way_go_on, last_writes_tell_the_store};
 use word_code::laws::following_goes_on;
 
-/// After each row memory and the attempt fit where the history leads, and a machine that runs can make its next step.
+/// After each row memory and the attempt fit where the history leads, and a machine that runs can
+/// make its next step.
 pub fn rows_keep_fit()
     ensures fit { RowsKeepFit }
     ensures runs { RunningMachinesCanRun }
@@ -28,8 +30,8 @@ pub fn rows_keep_fit()
     commits_take_the_oldest();
 }
 
-/// The marks of each row are legal, and events are served between units. A row tells no boot, accepts no posting, and
-/// takes the room of one step.
+/// The marks of each row are legal, and events are served between units. A row tells no boot,
+/// accepts no posting, and takes the room of one step.
 pub fn rows_keep_histories()
     ensures legal { RowsKeepLegal }
     ensures turns { RowsKeepTurns }
@@ -66,8 +68,8 @@ pub fn steps_keep_devices()
     ticks_keep_devices();
 }
 
-/// A device before its first step keeps it, and where it is kept the history is legal, with its boots at the ends of
-/// periods.
+/// A device before its first step keeps it, and where it is kept the history is legal, with its
+/// boots at the ends of periods.
 pub fn devices_are_sound()
     ensures fresh { FreshDevicesAreSound }
     ensures told { SoundDevicesAreToldWell }

@@ -1,5 +1,5 @@
-//! A device: its memory, what a cut of power takes, and the observer's record; what its steps do, and what they keep. No step
-//! is made here.
+//! A device: its memory, what a cut of power takes, and the observer's record; what its steps do,
+//! and what they keep. No step is made here.
 #![tactic(auto)]
 
 mod cursor;

@@ -18,7 +18,10 @@ impl Model for Readings {
 
     ghost Value = { Kept };
 
-    ghost view = { λ r. record { items = r.items.items; room = vec_capacity r.items - vec_len r.items } };
+    ghost view = { λ r. record {
+      items = r.items.items;
+      room = vec_capacity r.items - vec_len r.items;
+    } };
 }
 
 impl Readings {

@@ -3,7 +3,8 @@ ghost use Rattle.std.specs.Prelude.{◌≡◌, ◌≤◌, replicate};
 use std::marker::Model;
 use word_cpu::View;
 
-/// The words of the variables as a top half has them: none is a variable. It reads and stores none either.
+/// The words of the variables as a top half has them: none is a variable. It reads and stores none
+/// either.
 #[derive(Drop)]
 pub struct Scratch {
     words: [u16; 256],

@@ -1,4 +1,5 @@
--- What is answered to an input: what is wrong with its source or, where it has one, with its trace; or that it is accepted.
+-- What is answered to an input: what is wrong with its source or, where it has one, with its
+-- trace; or that it is accepted.
 use Rattle.std.specs.Prelude.{◌≡◌, ℕ, Bool, true, false, List, ◌++◌, length, nat_lt}
 use Rattle.serial_log.specs.declared.script.Script.{Script}
 use Rattle.task_syntax.specs.declared.program.Program.{Program}
@@ -21,9 +22,12 @@ has_trace input = nat_lt (length (source_part input)) (length input)
 pub data Answers (input : List ℕ) (status : Status) (text : List ℕ) : Type 0 where
   refused : (fault : SourceFault) → IsSourceFault input fault
       → status ≡ Refused → IsExplained (source_part input) fault text → Answers input status text
-  untraced : (program : Program) (fault : TraceFault) → HasAccepted input program → has_trace input ≡ true → FirstFault program (second_part input) fault
+  untraced : (program : Program) (fault : TraceFault) → HasAccepted input program →
+      has_trace input ≡ true → FirstFault program (second_part input) fault
       → status ≡ BadTrace → text ≡ trace_explanation input fault → Answers input status text
   accepted : (program : Program) → HasAccepted input program → has_trace input ≡ false
       → status ≡ Ok → text ≡ accepted_text program → Answers input status text
-  traced : (program : Program) (script : Script) → HasAccepted input program → has_trace input ≡ true → TraceText program (second_part input) script
-      → status ≡ Ok → text ≡ accepted_text program ++ script_text script → Answers input status text
+  traced : (program : Program) (script : Script) → HasAccepted input program →
+      has_trace input ≡ true → TraceText program (second_part input) script
+      → status ≡ Ok → text ≡ accepted_text program ++ script_text script →
+      Answers input status text

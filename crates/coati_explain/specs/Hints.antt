@@ -23,13 +23,15 @@ are_blanks bytes = not (length bytes == 0) && list_all is_blank bytes
 -- of what stands behind `%%` in a line
 abbrev pub behind_hint : List ℕ → Hint
 behind_hint more =
-    if bytes_eq more (carriage_return ∷ []) then hint.ReturnBehind else (if are_blanks more then hint.BlanksBehind else hint.Nothing)
+    if bytes_eq more (carriage_return ∷ []) then hint.ReturnBehind
+    else (if are_blanks more then hint.BlanksBehind else hint.Nothing)
 
 -- the line that ends a source has blanks behind its `%%`
 abbrev pub divider_hint : List ℕ → Hint
 divider_hint [] = hint.Nothing
 divider_hint (a ∷ []) = hint.Nothing
-divider_hint (a ∷ b ∷ more) = if a == percent && b == percent then behind_hint more else hint.Nothing
+divider_hint (a ∷ b ∷ more) = if a == percent && b == percent then behind_hint more
+    else hint.Nothing
 
 -- the line's last byte is a CR
 abbrev pub ends_with_return : List ℕ → Bool
@@ -41,5 +43,7 @@ return_hint line = if ends_with_return line then hint.ReturnBehind else hint.Not
 
 abbrev pub hint_text : Hint → List ℕ
 hint_text hint.Nothing = []
-hint_text hint.ReturnBehind = codes "a CR stands at the end of this line: save the input with LF alone behind its lines\n"
-hint_text hint.BlanksBehind = codes "the line that ends a source is `%%` alone: take away the blanks behind it\n"
+hint_text hint.ReturnBehind =
+    codes "a CR stands at the end of this line: save the input with LF alone behind its lines\n"
+hint_text hint.BlanksBehind =
+    codes "the line that ends a source is `%%` alone: take away the blanks behind it\n"

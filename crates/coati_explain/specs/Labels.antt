@@ -14,7 +14,8 @@ label_of (fault.Lexical at) = word_and_number (codes "lexical") at
 label_of (fault.Number at) = word_and_number (codes "number") at
 label_of (fault.Syntax token) = word_and_number (codes "syntax") token
 label_of (fault.Deep token) = word_and_number (codes "deep") token
-label_of (fault.Rule rule at) = word_and_number (codes "rule") (number_of rule) ++ codes " " ++ rule_text rule
+label_of (fault.Rule rule at) = word_and_number (codes "rule") (number_of rule) ++ codes " "
+    ++ rule_text rule
 
 -- a line of the trace, counted from its own first one
 abbrev pub line_label : ℕ → List ℕ → List ℕ

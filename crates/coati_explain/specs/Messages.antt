@@ -24,20 +24,24 @@ use Rattle.coati_explain.specs.Words.{words_of}
 -- where a fault is, and what, on a line
 abbrev pub heading : Spot → List ℕ → List ℕ → List ℕ
 heading here words label =
-    word_and_number (codes "line") here.line ++ word_and_number (codes ", column") here.column ++ codes ": " ++ words ++ codes " (" ++ label ++ codes ")\n"
+    word_and_number (codes "line") here.line ++ word_and_number (codes ", column") here.column
+    ++ codes ": " ++ words ++ codes " (" ++ label ++ codes ")\n"
 
 -- a heading, the line with a caret below the column, and what is asked
 abbrev pub located : List ℕ → Spot → List ℕ → List ℕ → List ℕ → List ℕ
 located source here words label asked =
     heading here words label
-    ++ shown_line (line_of source here.line) ++ caret_line here.column ++ asked ++ codes "\n" ++ hint_text (divider_hint (line_of source here.line))
+    ++ shown_line (line_of source here.line) ++ caret_line here.column ++ asked ++ codes "\n"
+    ++ hint_text (divider_hint (line_of source here.line))
 
 -- a message about a place of the source, of the word there and the one before it
 abbrev pub explanation : List ℕ → SourceFault → ℕ → Message → List ℕ → List ℕ → List ℕ
 explanation source fault at message word before =
-    located source (spot_of source at) (words_of message word before) (label_of fault) (asked_of message)
+    located source (spot_of source at) (words_of message word before) (label_of fault)
+    (asked_of message)
 
--- the letters, digits and `_` at the front of a text: a name, a word of the language, a number, or what looks like one
+-- the letters, digits and `_` at the front of a text: a name, a word of the language, a number, or
+-- what looks like one
 abbrev pub first_word : List ℕ → List ℕ
 first_word text = take (prefix_len is_name_byte text) text
 
@@ -51,15 +55,18 @@ begins_with_mark (a ∷ b ∷ c ∷ more) = a == 239 && b == 187 && c == 191
 -- of the byte that a text begins with
 abbrev pub byte_message : List ℕ → Message
 byte_message [] = message.StrangeByte
-byte_message (byte ∷ more) = if is_printable byte then message.StrangeByte else message.UnprintableByte byte
+byte_message (byte ∷ more) = if is_printable byte then message.StrangeByte
+    else message.UnprintableByte byte
 
 -- of a byte that starts nothing, where this is its place and this the text from there on
 abbrev pub lexical_message : ℕ → List ℕ → Message
-lexical_message at text = if at == 0 && begins_with_mark text then message.ByteOrderMark else byte_message text
+lexical_message at text = if at == 0 && begins_with_mark text then message.ByteOrderMark
+    else byte_message text
 
 -- of what looks like a number
 abbrev pub number_message : List ℕ → Message
-number_message word = if list_all is_ascii_digit word then message.GreatNumber else message.NumberIntoLetter
+number_message word = if list_all is_ascii_digit word then message.GreatNumber
+    else message.NumberIntoLetter
 
 -- of a broken rule, where this word stands at its place
 abbrev pub rule_message : Rule → List ℕ → Message
@@ -72,10 +79,12 @@ rule_message rule.TooManyWords word = message.TooManyWords
 rule_message rule.TooManyTasks word = message.TooManyTasks
 rule_message rule.NoEnding word = message.NoEnding
 rule_message rule.EarlyEnding word =
-    if bytes_eq word (codes "halt") || bytes_eq word (codes "give") then message.EarlyEnding else message.EarlyNext
+    if bytes_eq word (codes "halt") || bytes_eq word (codes "give") then message.EarlyEnding
+    else message.EarlyNext
 rule_message rule.IntoTx word = message.IntoTx
 rule_message rule.TopReadsNv word = message.TopReadsNv
-rule_message rule.GiveShape word = if bytes_eq word (codes "give") then message.GiveCount else message.FifthParameter
+rule_message rule.GiveShape word = if bytes_eq word (codes "give") then message.GiveCount
+    else message.FifthParameter
 rule_message rule.LoopAssigned word = message.LoopAssigned
 rule_message rule.TooManyLocals word = message.TooManyLocals
 rule_message rule.TooDeepStack word = message.TooDeepStack
@@ -83,25 +92,30 @@ rule_message (rule.TooLong number) word = message.TooLong
 
 -- the place of a token by its number: its first byte, or the source's end behind the last token
 abbrev pub token_place : List ℕ → List Token → ℕ → ℕ
-token_place source tokens number = option_map_or (λ token. token.start) (slice_get tokens number) (length source)
+token_place source tokens number = option_map_or (λ token. token.start) (slice_get tokens number)
+    (length source)
 
 -- its text, empty behind the last token
 abbrev pub token_text : List ℕ → List Token → ℕ → List ℕ
-token_text source tokens number = option_map_or (λ token. slice_range source token.start token.end) (slice_get tokens number) []
+token_text source tokens number = option_map_or (λ token. slice_range source token.start token.end)
+    (slice_get tokens number) []
 
 -- the text of the token before, empty before the first one
 abbrev pub text_before : List ℕ → List Token → ℕ → List ℕ
-text_before source tokens number = if number == 0 then [] else token_text source tokens (number - 1)
+text_before source tokens number = if number == 0 then []
+    else token_text source tokens (number - 1)
 
 -- of the token of this number, with which no program goes on, or behind which there is none
 abbrev pub syntax_message : List Token → ℕ → Message
 syntax_message tokens number =
-    if is_some (slice_get tokens number) then (if number == 0 then message.NoBeginning else message.NoGoingOn)
+    if is_some (slice_get tokens number) then (if number == 0 then message.NoBeginning
+    else message.NoGoingOn)
     else (if number == 0 then message.NoTokens else message.EndsEarly)
 
 -- the word is an open bracket
 abbrev pub is_bracket : List ℕ → Bool
-is_bracket word = bytes_eq word (codes "(") || bytes_eq word (codes "[") || bytes_eq word (codes "{")
+is_bracket word = bytes_eq word (codes "(") || bytes_eq word (codes "[")
+    || bytes_eq word (codes "{")
 
 -- of a token that stands too deep
 abbrev pub deep_message : List ℕ → Message
@@ -109,25 +123,34 @@ deep_message word = if is_bracket word then message.ManyBrackets else message.Ma
 
 abbrev pub syntax_text : List ℕ → ℕ → List Token → List ℕ
 syntax_text source number tokens =
-    explanation source (fault.Syntax number) (token_place source tokens number) (syntax_message tokens number) (token_text source tokens number) (text_before source tokens number)
+    explanation source (fault.Syntax number) (token_place source tokens number)
+    (syntax_message tokens number) (token_text source tokens number)
+    (text_before source tokens number)
 
 abbrev pub deep_text : List ℕ → ℕ → List Token → List ℕ
 deep_text source number tokens =
-    explanation source (fault.Deep number) (token_place source tokens number) (deep_message (token_text source tokens number)) (token_text source tokens number) (text_before source tokens number)
+    explanation source (fault.Deep number) (token_place source tokens number)
+    (deep_message (token_text source tokens number)) (token_text source tokens number)
+    (text_before source tokens number)
 
 -- the text is told of the source's tokens
-pub record IsOfTokens (source : List ℕ) (text_of : List Token → List ℕ) (text : List ℕ) : Type 0 where
+pub record IsOfTokens (source : List ℕ) (text_of : List Token → List ℕ) (text : List ℕ)
+    : Type 0 where
   pub tokens : List Token
   pub read : Tokens source tokens
   pub is : text ≡ text_of tokens
 
--- the text explains this fault of the source; were a rule's place behind the source's end, the end would be told
+-- the text explains this fault of the source; were a rule's place behind the source's end, the end
+-- would be told
 abbrev pub IsExplained : List ℕ → SourceFault → List ℕ → Type 0
 IsExplained source (fault.Lexical at) text =
-    text ≡ explanation source (fault.Lexical at) at (lexical_message at (drop at source)) (take 1 (drop at source)) []
+    text ≡ explanation source (fault.Lexical at) at (lexical_message at (drop at source))
+    (take 1 (drop at source)) []
 IsExplained source (fault.Number at) text =
-    text ≡ explanation source (fault.Number at) at (number_message (first_word (drop at source))) (first_word (drop at source)) []
+    text ≡ explanation source (fault.Number at) at (number_message (first_word (drop at source)))
+    (first_word (drop at source)) []
 IsExplained source (fault.Syntax number) text = IsOfTokens source (syntax_text source number) text
 IsExplained source (fault.Deep number) text = IsOfTokens source (deep_text source number) text
 IsExplained source (fault.Rule rule at) text =
-    text ≡ explanation source (fault.Rule rule at) (min at (length source)) (rule_message rule (first_word (drop at source))) (first_word (drop at source)) []
+    text ≡ explanation source (fault.Rule rule at) (min at (length source))
+    (rule_message rule (first_word (drop at source))) (first_word (drop at source)) []

@@ -17,7 +17,8 @@ is_printable byte = nat_le blank byte && nat_le byte 126
 
 -- a tab is shown as one blank, so that each byte is as wide as any other
 abbrev pub shown_byte : ℕ → ℕ
-shown_byte byte = if byte == tab then blank else (if is_printable byte then byte else question_mark)
+shown_byte byte = if byte == tab then blank else (if is_printable byte then byte
+    else question_mark)
 
 abbrev pub shown : List ℕ → List ℕ
 shown bytes = map shown_byte bytes

@@ -1,4 +1,5 @@
--- Where a place of a text lies: the line, counted from 1, and the column, which is 1 at the line's first byte.
+-- Where a place of a text lies: the line, counted from 1, and the column, which is 1 at the line's
+-- first byte.
 use Rattle.std.specs.Prelude.{◌≡◌, ℕ, ◌+◌, ◌-◌, ◌≤◌, List, [], ◌∷◌, ◌++◌, length, nat_le, if◌then◌else◌}
 use Rattle.coati_text.specs.Line.{lines_of}
 use Rattle.coati_explain.specs.declared.spot.Spot.{Spot}
@@ -6,8 +7,8 @@ use Rattle.coati_explain.specs.declared.spot.Spot.{Spot}
 abbrev pub spot : ℕ → ℕ → Spot
 spot line column = record { line = line; column = column }
 
--- where a place lies among lines, of which the first has this number; a place behind them all has the last spot that
--- was passed
+-- where a place lies among lines, of which the first has this number; a place behind them all has
+-- the last spot that was passed
 abbrev pub spot_among : Spot → ℕ → List (List ℕ) → ℕ → Spot
 spot_among passed number [] at = passed
 spot_among passed number (line ∷ more) at =
@@ -34,9 +35,12 @@ width (line ∷ more) = length line + 1 + width more
 
 -- the place is one of a line or of its end, or it is the end of the text, behind its last line
 pub data LiesAt (text : List ℕ) (at : ℕ) (here : Spot) : Type 0 where
-  in_line : (front : List (List ℕ)) (line : List ℕ) (more : List (List ℕ)) → lines_of text ≡ front ++ line ∷ more
-      → here.line ≡ length front + 1 → at + 1 ≡ width front + here.column → 1 ≤ here.column → here.column ≤ length line + 1
+  in_line : (front : List (List ℕ)) (line : List ℕ) (more : List (List ℕ)) →
+      lines_of text ≡ front ++ line ∷ more
+      → here.line ≡ length front + 1 → at + 1 ≡ width front + here.column → 1 ≤ here.column →
+      here.column ≤ length line + 1
       → LiesAt text at here
-  at_end : (front : List (List ℕ)) (line : List ℕ) → lines_of text ≡ front ++ line ∷ [] → at ≡ length text
+  at_end : (front : List (List ℕ)) (line : List ℕ) → lines_of text ≡ front ++ line ∷ [] →
+      at ≡ length text
       → here.line ≡ length front + 1 → here.column ≡ length line + 1 → LiesAt text at here
   in_nothing : text ≡ [] → at ≡ 0 → here ≡ spot 1 1 → LiesAt text at here

@@ -9,7 +9,8 @@ use coati_top::{Status, deliver};
 use coati_word::limits::INPUT_BYTES;
 use std::alloc::Global;
 
-/// Tells what is wrong with an input, in lines and words, or that it is accepted. It returns, whatever its ends do.
+/// Tells what is wrong with an input, in lines and words, or that it is accepted. It returns,
+/// whatever its ends do.
 pub fn explain<S: Source, K: Sink>(alloc: Global, input: &mut S, output: &mut K) -> Status
     ensures { Explained result (input_edge S.left S.faults input.old input.new)
         (output_edge K.taken K.faults K.spare output.old output.new) }

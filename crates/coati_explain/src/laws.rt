@@ -6,8 +6,8 @@ ghost use Rattle.coati_explain.specs.Answer.{has_trace};
 ghost use Rattle.coati_explain.specs.Spot.{LiesAt, line_of, spot_of};
 ghost use Rattle.coati_explain.specs.Trace.{divider_line};
 
-/// Each place of a text, and its end, lies at the spot that is told, and the line of a number is the one with as many
-/// lines before it as that number counts.
+/// Each place of a text, and its end, lies at the spot that is told, and the line of a number is
+/// the one with as many lines before it as that number counts.
 pub fn places_lie_in_their_lines()
     ensures spot { (text : List ℕ) (at : ℕ) → at ≤ length text → LiesAt text at (spot_of text at) }
     ensures line { (text : List ℕ) (front : List (List ℕ)) (line : List ℕ) (more : List (List ℕ))

@@ -93,7 +93,8 @@ fn line_count(text: &[u8]) -> u32
     count
 }
 
-/// Which line of the trace is told, counted from 1; where no line says anything, the one before its first.
+/// Which line of the trace is told, counted from 1; where no line says anything, the one before
+/// its first.
 fn told_line(trace: &[u8], fault: TraceFault) -> u32
     requires { length trace.now ≤ 262144 }
     ensures { result ≡ told_line trace.now fault }

@@ -17,7 +17,8 @@ counted count n = min (count + min n 1) greatest_count
 abbrev pub next_call : ℕ → ℕ
 next_call number = min (number + 1) (2 ^ 32 - 1)
 
--- a count of the calls that moved bytes rises by at most one in such a call, and stays in any other
+-- a count of the calls that moved bytes rises by at most one in such a call, and stays in any
+-- other
 abbrev pub CountsMoved : {E : Type 0} → ℕ → ℕ → Result ℕ E → Type 0
 CountsMoved before after (Ok n) = (before ≤ after) × (after ≤ before + min n 1)
 CountsMoved before after (Err e) = after ≡ before

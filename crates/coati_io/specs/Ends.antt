@@ -24,7 +24,8 @@ pub record ReadsWhole (old new : Option (List ℕ)) (max : ℕ) (bytes : List �
   pub ended : IsAtEnd new
   pub fits : length bytes ≤ max
 
--- how many bytes were given where reading stopped before the end: with byte `max + 1`, or before it
+-- how many bytes were given where reading stopped before the end: with byte `max + 1`, or before
+-- it
 abbrev pub StopsReading : Option (List ℕ) → Option (List ℕ) → ℕ → ReadEnd → Type 0
 StopsReading old new max read_end.Fault = ConsumesAtMost old new max
 StopsReading old new max read_end.TooLarge = ConsumesExactly old new (max + 1)
@@ -32,4 +33,5 @@ StopsReading old new max read_end.OutOfMemory = ConsumesAtMost old new max
 
 -- exactly the first `sent` bytes were appended, and they are not all
 abbrev pub StopsWriting : Option (List ℕ) → Option (List ℕ) → List ℕ → WriteEnd → Type 0
-StopsWriting old new bytes (write_end.Fault sent) = Appends old new (take sent bytes) × (sent < length bytes)
+StopsWriting old new bytes (write_end.Fault sent) = Appends old new (take sent bytes)
+    × (sent < length bytes)

@@ -36,12 +36,27 @@ pub record SinkInMemory : Type 0 where
 
 -- a source that has given nothing yet
 abbrev pub new_source : List ℕ → ℕ → List ℕ → SourceInMemory
-new_source bytes piece fails = record { left = bytes; piece = piece; fails = fails; calls = 0; reads = 0; faults = 0 }
+new_source bytes piece fails = record {
+  left = bytes;
+  piece = piece;
+  fails = fails;
+  calls = 0;
+  reads = 0;
+  faults = 0;
+}
 
 -- a sink that has taken nothing yet, and has no room
 abbrev pub new_sink : ℕ → List ℕ → SinkInMemory
 new_sink piece fails =
-    record { taken = []; room = 0; piece = piece; fails = fails; calls = 0; writes = 0; faults = 0 }
+    record {
+      taken = [];
+      room = 0;
+      piece = piece;
+      fails = fails;
+      calls = 0;
+      writes = 0;
+      faults = 0;
+    }
 
 -- the call after the one of this number is among those that fail
 abbrev pub FailsNext : List ℕ → ℕ → Type 0
@@ -53,7 +68,11 @@ next_piece s len = min len (min s.piece (length s.left))
 
 -- the source after a read with this answer
 abbrev pub after_read : {E : Type 0} → SourceInMemory → Result ℕ E → SourceInMemory
-after_read s (Ok n) = record s { left = drop n s.left; calls = next_call s.calls; reads = counted s.reads n }
+after_read s (Ok n) = record s {
+  left = drop n s.left;
+  calls = next_call s.calls;
+  reads = counted s.reads n;
+}
 after_read s (Err e) = record s { calls = next_call s.calls; faults = raised s.faults }
 
 -- the buffer after a read of these bytes with this answer: what lies behind the given bytes stays
@@ -68,7 +87,12 @@ RefusesWrite s len = FailsNext s.fails s.calls ⊎ (s.room < min s.piece len)
 -- the sink after a write of these bytes with this answer
 abbrev pub after_write : {E : Type 0} → SinkInMemory → List ℕ → Result ℕ E → SinkInMemory
 after_write s bytes (Ok n) =
-    record s { taken = s.taken ++ take n bytes; room = s.room - n; calls = next_call s.calls; writes = counted s.writes n }
+    record s {
+      taken = s.taken ++ take n bytes;
+      room = s.room - n;
+      calls = next_call s.calls;
+      writes = counted s.writes n;
+    }
 after_write s bytes (Err e) = record s { calls = next_call s.calls; faults = raised s.faults }
 
 -- how many bytes a sink with this room takes without failing: none, where calls are told to fail

@@ -61,9 +61,9 @@ impl<R: Read + Drop> Source for StdSource<R> {
     }
 }
 
-/// A writer of std as a sink. It is a trusted edge of the program: as a sink it tells nothing of its
-/// bytes. Each `Err` of the writer is a failure, `Interrupted` too, and so is a write that takes
-/// nothing. A failure raises the count, which stays at the greatest u64.
+/// A writer of std as a sink. It is a trusted edge of the program: as a sink it tells nothing of
+/// its bytes. Each `Err` of the writer is a failure, `Interrupted` too, and so is a write that
+/// takes nothing. A failure raises the count, which stays at the greatest u64.
 #[derive(Drop)]
 pub struct StdSink<W: Write + Drop> {
     writer: W,

@@ -10,7 +10,8 @@ use coati_word::OutOfMemory;
 use std::alloc::Global;
 use std::marker::Model;
 
-/// A sink in memory, which takes bytes in pieces and fails where it is told to and where it is full.
+/// A sink in memory, which takes bytes in pieces and fails where it is told to and where it is
+/// full.
 #[derive(Drop)]
 pub struct MemSink {
     bytes: Vec<u8>,

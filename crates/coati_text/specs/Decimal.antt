@@ -1,4 +1,5 @@
--- A decimal is `0`, or digits without a leading zero. Where a text is read, it is the longest run of digits.
+-- A decimal is `0`, or digits without a leading zero. Where a text is read, it is the longest run
+-- of digits.
 use Rattle.std.specs.Prelude.{ℕ, Bool, true, false, List, [], ◌∷◌, take, Result, Ok, Err, nat_le, ◌==◌, not, EachIndex, slice_index, if◌then◌else◌}
 use Rattle.std.specs.Char.{IsAsciiDigit, is_ascii_digit}
 use Rattle.std.specs.List.{prefix_len}

@@ -1,4 +1,5 @@
--- The lines of a text, without their ends. A line ends with one LF; a last line without an end is a line.
+-- The lines of a text, without their ends. A line ends with one LF; a last line without an end is
+-- a line.
 use Rattle.std.specs.Prelude.{ℕ, ◌≢◌, List, [], ◌∷◌, ◌++◌, ◌==◌, if◌then◌else◌, not}
 use Rattle.std.specs.List.{prefix_len, AllByRecursion}
 
@@ -14,7 +15,8 @@ with_front byte (line ∷ more) = (byte ∷ line) ∷ more
 -- the lines of a text
 abbrev pub lines_of : List ℕ → List (List ℕ)
 lines_of [] = []
-lines_of (byte ∷ text) = if byte == line_feed then [] ∷ lines_of text else with_front byte (lines_of text)
+lines_of (byte ∷ text) = if byte == line_feed then [] ∷ lines_of text
+    else with_front byte (lines_of text)
 
 -- how many bytes stand before the first end
 abbrev pub line_len : List ℕ → ℕ
@@ -28,5 +30,6 @@ HasNoEnd line = AllByRecursion (λ byte. byte ≢ line_feed) line
 pub data IsTextOf : List (List ℕ) → List ℕ → Type 0 where
   empty : IsTextOf [] []
   unended : (line : List ℕ) → HasNoEnd line → line ≢ [] → IsTextOf (line ∷ []) line
-  ended : (line : List ℕ) (more : List (List ℕ)) (rest : List ℕ) → HasNoEnd line → IsTextOf more rest
+  ended : (line : List ℕ) (more : List (List ℕ)) (rest : List ℕ) → HasNoEnd line →
+      IsTextOf more rest
       → IsTextOf (line ∷ more) (line ++ line_feed ∷ rest)

@@ -24,15 +24,17 @@ pub struct Cursor<'a> {
 impl<'a> Cursor<'a> {
     ghost use Rattle.coati_text.specs.Unread.{unread};
 
-    /// Reads the longest run of digits at the place, which must be a decimal of at most `max`, and moves behind it.
-    /// A refusal moves nothing.
+    /// Reads the longest run of digits at the place, which must be a decimal of at most `max`, and
+    /// moves behind it. A refusal moves nothing.
     pub fn read_decimal(&mut self, max: u32) -> Result<u32, NumFault>
         ensures number { result ≡ decimal_at max (unread self.old) }
         ensures text { self.new.bytes.now ≡ self.old.bytes.now }
-        ensures moved { OnOk result (self.new.place ≡ self.old.place + digit_count (unread self.old)) }
+        ensures moved { OnOk result (self.new.place
+            ≡ self.old.place + digit_count (unread self.old)) }
         ensures stays { OnErr result (self.new.place ≡ self.old.place) }
 
-        // What was read is the one decimal of the number, and a decimal with no digit behind it is read.
+        // What was read is the one decimal of the number, and a decimal with no digit behind it is
+        // read.
         ensures spelled { IfOk result (λ n. unread self.old ≡ decimal n ++ unread self.new) }
         ensures read { (n : ℕ) (rest : List ℕ) → n ≤ max → digit_count rest ≡ 0
             → unread self.old ≡ decimal n ++ rest → result ≡ Ok n }
@@ -78,7 +80,8 @@ fn number_of(run: &[u8], max: u32) -> Result<u32, NumFault>
     Ok(value as u32)
 }
 
-/// The value of the digits, or the cap where that is less: a run may be longer than any number has digits.
+/// The value of the digits, or the cap where that is less: a run may be longer than any number has
+/// digits.
 fn value_up_to(run: &[u8], cap: u64) -> u64
     requires digits { AreDigits run.now }
     requires small { cap ≤ 2 ^ 32 }

@@ -14,5 +14,6 @@ pub fn each_number_has_one_decimal()
 /// The lines of a text are what stands before, between and behind its ends, and no others are.
 pub fn lines_are_the_text()
     ensures lines { (text : List ℕ) → IsTextOf (lines_of text) text }
-    ensures only { (lines : List (List ℕ)) (text : List ℕ) → IsTextOf lines text → lines ≡ lines_of text }
+    ensures only { (lines : List (List ℕ)) (text : List ℕ) → IsTextOf lines text →
+        lines ≡ lines_of text }
 {}

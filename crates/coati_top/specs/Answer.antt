@@ -21,8 +21,8 @@ use Rattle.coati_top.specs.Runs.{IsRun}
 use Rattle.coati_top.specs.Source.{HasAccepted, IsSourceFault}
 use Rattle.coati_top.specs.TraceRefusal.{trace_refusal}
 
--- the input asks for a run of this program by this script: its source is the program, which is accepted, and its trace is
--- the script
+-- the input asks for a run of this program by this script: its source is the program, which is
+-- accepted, and its trace is the script
 pub record AsksFor (input : List ℕ) (program : Program) (script : Script) : Type 0 where
   pub source : HasAccepted input program
   pub trace : TraceText program (second_part input) script
@@ -38,15 +38,22 @@ pub record IsRunOf (input : List ℕ) (mode : Mode) (run : Whole) : Type 0 where
   pub asked : AsksFor input run.program run.script
   pub made : IsRun mode run
 
--- the answer of a command to an input: its status, its text, and the board of the run where one was made
-pub data Answers (command : Command) (input : List ℕ) (status : Status) (text : List ℕ) (board : Option Whole) : Type 0 where
+-- the answer of a command to an input: its status, its text, and the board of the run where one
+-- was made
+pub data Answers (command : Command) (input : List ℕ) (status : Status) (text : List ℕ)
+    (board : Option Whole) : Type 0 where
   refused : (fault : SourceFault) → IsSourceFault input fault
-      → status ≡ Refused → text ≡ refusal_text fault → board ≡ None → Answers command input status text board
+      → status ≡ Refused → text ≡ refusal_text fault → board ≡ None →
+      Answers command input status text board
   measured : (program : Program) → command ≡ Check → HasAccepted input program
-      → status ≡ Ok → text ≡ check_text program → board ≡ None → Answers command input status text board
+      → status ≡ Ok → text ≡ check_text program → board ≡ None →
+      Answers command input status text board
   listed : (program : Program) → command ≡ Dump → HasAccepted input program
-      → status ≡ Ok → text ≡ listing program → board ≡ None → Answers command input status text board
+      → status ≡ Ok → text ≡ listing program → board ≡ None →
+      Answers command input status text board
   untraced : (mode : Mode) (fault : TraceFault) → command ≡ Run mode → HasFaultyTrace input fault
-      → status ≡ BadTrace → text ≡ trace_refusal fault → board ≡ None → Answers command input status text board
+      → status ≡ BadTrace → text ≡ trace_refusal fault → board ≡ None →
+      Answers command input status text board
   ran : (mode : Mode) (run : Whole) → command ≡ Run mode → IsRunOf input mode run
-      → status ≡ Ok → text ≡ board_text run → board ≡ Some run → Answers command input status text board
+      → status ≡ Ok → text ≡ board_text run → board ≡ Some run →
+      Answers command input status text board

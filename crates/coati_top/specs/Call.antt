@@ -10,14 +10,16 @@ use Rattle.coati_board.specs.Board.{Whole}
 use Rattle.coati_top.specs.Answer.{Answers}
 use Rattle.coati_top.specs.Refusal.{usage_text, too_large_text}
 
--- the input of a call: the bytes still to come, where it tells of them, and its count of faults, before and after
+-- the input of a call: the bytes still to come, where it tells of them, and its count of faults,
+-- before and after
 pub record InputEdge : Type 0 where
   pub old : Option (List ℕ)
   pub new : Option (List ℕ)
   pub before : ℕ
   pub after : ℕ
 
--- the output of a call: the bytes taken, where it tells of them, its count of faults, and how many bytes it has room for at first
+-- the output of a call: the bytes taken, where it tells of them, its count of faults, and how many
+-- bytes it has room for at first
 pub record OutputEdge : Type 0 where
   pub old : Option (List ℕ)
   pub new : Option (List ℕ)
@@ -26,11 +28,23 @@ pub record OutputEdge : Type 0 where
   pub room : ℕ
 
 abbrev pub input_edge : {S : Type 0} → (S → Option (List ℕ)) → (S → ℕ) → S → S → InputEdge
-input_edge left faults old new = record { old = left old; new = left new; before = faults old; after = faults new }
+input_edge left faults old new = record {
+  old = left old;
+  new = left new;
+  before = faults old;
+  after = faults new;
+}
 
-abbrev pub output_edge : {K : Type 0} → (K → Option (List ℕ)) → (K → ℕ) → (K → ℕ) → K → K → OutputEdge
+abbrev pub output_edge : {K : Type 0} → (K → Option (List ℕ)) → (K → ℕ) → (K → ℕ) → K → K →
+    OutputEdge
 output_edge taken faults spare old new =
-    record { old = taken old; new = taken new; before = faults old; after = faults new; room = spare old }
+    record {
+      old = taken old;
+      new = taken new;
+      before = faults old;
+      after = faults new;
+      room = spare old;
+    }
 
 -- the greatest input, in bytes
 abbrev pub input_limit : ℕ
@@ -59,7 +73,8 @@ pub record WritesAll (output : OutputEdge) (text : List ℕ) : Type 0 where
   pub whole : Appends output.old output.new text
   pub steady : length text ≤ output.room → output.after ≡ output.before
 
--- the output failed, which it does only where there is no room for all of the text, and a front of the text was written
+-- the output failed, which it does only where there is no room for all of the text, and a front of
+-- the text was written
 pub record WritesFront (output : OutputEdge) (text : List ℕ) : Type 0 where
   pub failed : WritingFailed output
   pub short : output.room < length text
@@ -70,9 +85,10 @@ pub record WritesFront (output : OutputEdge) (text : List ℕ) : Type 0 where
 abbrev pub Writes : OutputEdge → List ℕ → Type 0
 Writes output text = WritesAll output text ⊎ WritesFront output text
 
--- the input was read to its end and is within the limit, the command's answer to it has this status and this board, and
--- its text was written in this way
-pub record Answered (command : Command) (status : Status) (input : InputEdge) (board : Option Whole) (Writing : List ℕ → Type 0) : Type 0 where
+-- the input was read to its end and is within the limit, the command's answer to it has this
+-- status and this board, and its text was written in this way
+pub record Answered (command : Command) (status : Status) (input : InputEdge)
+    (board : Option Whole) (Writing : List ℕ → Type 0) : Type 0 where
   pub bytes : List ℕ
   pub read : ReadsWhole input.old input.new input_limit bytes
   pub text : List ℕ
@@ -83,18 +99,23 @@ pub record Answered (command : Command) (status : Status) (input : InputEdge) (b
 abbrev pub Explains : Command → Status → InputEdge → OutputEdge → Option Whole → Type 0
 Explains command Ok input output board = Answered command Ok input board (WritesAll output)
 Explains command Usage input output board = ⊥
-Explains command ReadFault input output board = ReadingFailed input × WritesNothing output × (board ≡ None)
-Explains command WriteFault input output board = Answered command Ok input board (WritesFront output)
+Explains command ReadFault input output board = ReadingFailed input × WritesNothing output
+    × (board ≡ None)
+Explains command WriteFault input output board =
+    Answered command Ok input board (WritesFront output)
 Explains command TooLarge input output board =
-    ConsumesExactly input.old input.new (input_limit + 1) × Writes output too_large_text × (board ≡ None)
+    ConsumesExactly input.old input.new (input_limit + 1) × Writes output too_large_text
+    × (board ≡ None)
 Explains command Refused input output board = Answered command Refused input board (Writes output)
-Explains command BadTrace input output board = Answered command BadTrace input board (Writes output)
+Explains command BadTrace input output board =
+    Answered command BadTrace input board (Writes output)
 Explains command Differs input output board = ⊥
 Explains command OutOfMemory input output board = WritesNothing output × (board ≡ None)
 
 -- why a call ended with this status: the words name no command, or the command's own reason
 abbrev pub Explained : Option Command → Status → InputEdge → OutputEdge → Option Whole → Type 0
-Explained None status input output board = (status ≡ Usage) × ReadsNothing input × Writes output usage_text × (board ≡ None)
+Explained None status input output board = (status ≡ Usage) × ReadsNothing input
+    × Writes output usage_text × (board ≡ None)
 Explained (Some command) status input output board = Explains command status input output board
 
 -- what a status becomes where its text was not written whole
@@ -105,10 +126,14 @@ after_fault status = status
 -- a text was written, and its status stands; or the sink failed
 abbrev pub Delivers : Status → Status → OutputEdge → List ℕ → Type 0
 Delivers status result output text =
-    ((result ≡ status) × WritesAll output text) ⊎ ((result ≡ after_fault status) × WritesFront output text)
+    ((result ≡ status) × WritesAll output text)
+    ⊎ ((result ≡ after_fault status) × WritesFront output text)
 
 -- a command's answer to these bytes was delivered, or memory ran out before anything was written
-pub data AnswersTo (command : Command) (bytes : List ℕ) (status : Status) (output : OutputEdge) (board : Option Whole) : Type 0 where
-  delivered : (before : Status) (text : List ℕ) → Answers command bytes before text board → Delivers before status output text
+pub data AnswersTo (command : Command) (bytes : List ℕ) (status : Status) (output : OutputEdge)
+    (board : Option Whole) : Type 0 where
+  delivered : (before : Status) (text : List ℕ) → Answers command bytes before text board →
+      Delivers before status output text
       → AnswersTo command bytes status output board
-  starved : status ≡ OutOfMemory → WritesNothing output → board ≡ None → AnswersTo command bytes status output board
+  starved : status ≡ OutOfMemory → WritesNothing output → board ≡ None →
+      AnswersTo command bytes status output board

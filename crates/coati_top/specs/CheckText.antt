@@ -1,4 +1,5 @@
--- What `check` says of an accepted program: its words, its buffer, what each task and each event costs, and its bounds.
+-- What `check` says of an accepted program: its words, its buffer, what each task and each event
+-- costs, and its bounds.
 use Rattle.std.specs.Prelude.{ℕ, List, ◌++◌, codes, decimal, flat_map}
 use Rattle.task_syntax.specs.declared.program.Program.{Program}
 use Rattle.task_syntax.specs.declared.program.Event.{Event}
@@ -12,7 +13,8 @@ use Rattle.coati_top.specs.Lines.{number_line}
 
 -- what a task or an event of a name costs
 abbrev pub cost_line : List ℕ → List ℕ → ℕ → List ℕ
-cost_line kind name cost = kind ++ codes " " ++ name ++ codes " cost " ++ decimal cost ++ codes "\n"
+cost_line kind name cost = kind ++ codes " " ++ name ++ codes " cost " ++ decimal cost
+    ++ codes "\n"
 
 abbrev pub task_line : Program → TaskDecl → List ℕ
 task_line program task = cost_line (codes "task") task.name.text (task_cost program task)
@@ -23,10 +25,13 @@ event_line program event = cost_line (codes "event") event.name.text (event_cost
 
 abbrev pub bounds_line : Bounds → List ℕ
 bounds_line bounds =
-    codes "bounds " ++ decimal bounds.c ++ codes " " ++ decimal bounds.a ++ codes " " ++ decimal bounds.b ++ codes " " ++ decimal bounds.h ++ codes "\n"
+    codes "bounds " ++ decimal bounds.c ++ codes " " ++ decimal bounds.a ++ codes " "
+    ++ decimal bounds.b ++ codes " " ++ decimal bounds.h ++ codes "\n"
 
 -- the whole text
 abbrev pub check_text : Program → List ℕ
 check_text program =
-    codes "accepted\n" ++ number_line (codes "words") (word_count program.vars) ++ number_line (codes "buffer") (buffer_size program)
-    ++ flat_map (task_line program) (tasks program) ++ flat_map (event_line program) program.events ++ bounds_line (bounds_of program)
+    codes "accepted\n" ++ number_line (codes "words") (word_count program.vars)
+    ++ number_line (codes "buffer") (buffer_size program)
+    ++ flat_map (task_line program) (tasks program) ++ flat_map (event_line program) program.events
+    ++ bounds_line (bounds_of program)

@@ -50,7 +50,8 @@ LacksTrace (Run mode) bytes = IsUntraced bytes
 abbrev pub EndsWith : Status → Status → Type 0
 EndsWith wanted status = (status ≡ wanted) ⊎ (status ≡ OutOfMemory)
 
--- an undisturbed call succeeds on an input that the command serves, and tells what is wrong with a trace
+-- an undisturbed call succeeds on an input that the command serves, and tells what is wrong with a
+-- trace
 pub record Ends (command : Command) (status : Status) (bytes : List ℕ) : Type 0 where
   pub served : IsServed command bytes → EndsWith Ok status
   pub untraced : LacksTrace command bytes → EndsWith BadTrace status

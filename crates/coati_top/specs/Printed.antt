@@ -47,8 +47,8 @@ printed_text program mode marks readings store held =
     mode_line mode ++ number_line (codes "bound") (bounds_of program).b
     ++ mark_lines program readings marks ++ variable_lines 0 program.vars store ++ held_line held
 
--- the text of a board: its history, the words to which the serial run of its history leads, and how many of its accepted
--- postings no record serves
+-- the text of a board: its history, the words to which the serial run of its history leads, and
+-- how many of its accepted postings no record serves
 abbrev pub board_text : Whole → List ℕ
 board_text board =
     printed_text board.program board.mode board.device.history.marks board.device.history.readings

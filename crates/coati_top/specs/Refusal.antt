@@ -31,7 +31,8 @@ fault_text (fault.Lexical at) = word_and_number (codes "lexical") at
 fault_text (fault.Number at) = word_and_number (codes "number") at
 fault_text (fault.Syntax token) = word_and_number (codes "syntax") token
 fault_text (fault.Deep token) = word_and_number (codes "deep") token
-fault_text (fault.Rule rule at) = word_and_number (word_and_number (codes "rule") (number_of rule) ++ codes " " ++ rule_text rule ++ codes " at") at
+fault_text (fault.Rule rule at) = word_and_number (word_and_number (codes "rule") (number_of rule)
+    ++ codes " " ++ rule_text rule ++ codes " at") at
 
 abbrev pub refusal_text : SourceFault → List ℕ
 refusal_text fault = codes "refused " ++ fault_text fault ++ codes "\n"

@@ -23,9 +23,10 @@ abbrev pub IsEndedBy : End → Whole → Type 0
 IsEndedBy Idle run = HasRaisedAll run
 IsEndedBy Limit run = HasMadeAllSteps run
 
--- The board of a run in a mode: it was opened for its program and its script, ran to its end, and was ended there. Each
--- posting was raised in its turn. The history is legal, and so a serial run of the program; memory stands for where the
--- history leads, what is held with it; the boots are at the ends of the power periods; and events were served between units.
+-- The board of a run in a mode: it was opened for its program and its script, ran to its end, and
+-- was ended there. Each posting was raised in its turn. The history is legal, and so a serial run
+-- of the program; memory stands for where the history leads, what is held with it; the boots are
+-- at the ends of the power periods; and events were served between units.
 pub record IsRun (mode : Mode) (run : Whole) : Type 0 where
   pub start : Whole
   pub opened : IsOpened run.program mode run.script start
@@ -36,6 +37,8 @@ pub record IsRun (mode : Mode) (run : Whole) : Type 0 where
   pub in_turn : ArePostingsInTurn run.script.postings run.device.history.marks
   pub legal : IsLegalHistory (terms_of run.program mode) run.device.history
   pub serial : SerialRun run.program run.device.history
-  pub stands : StandsFor run.program (state run.device.image) (standing_of run.program run.device.history.marks)
-  pub boots : AreBootsAtPeriods run.program run.script.power run.device.clock run.device.history.marks
+  pub stands : StandsFor run.program (state run.device.image)
+      (standing_of run.program run.device.history.marks)
+  pub boots : AreBootsAtPeriods run.program run.script.power run.device.clock
+      run.device.history.marks
   pub turns : ServesBetweenUnits run.program run.device.history.marks

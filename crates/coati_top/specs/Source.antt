@@ -1,5 +1,5 @@
--- What the source of an input is: an accepted program, or what is wrong with it. Faults of its bytes come before those of
--- its tokens, and these before broken rules.
+-- What the source of an input is: an accepted program, or what is wrong with it. Faults of its
+-- bytes come before those of its tokens, and these before broken rules.
 use Rattle.std.specs.Prelude.{ℕ, List}
 use Rattle.task_syntax.specs.declared.program.Program.{Program}
 use Rattle.task_lex.specs.Reading.{Tokens, FaultsAt}
@@ -42,4 +42,5 @@ IsSourceFault input (fault.Lexical at) = FaultsAt (source_part input) (BadByte a
 IsSourceFault input (fault.Number at) = FaultsAt (source_part input) (BadNumber at)
 IsSourceFault input (fault.Syntax token) = HasFaultyTokens input (λ list. FaultAt list token)
 IsSourceFault input (fault.Deep token) = HasFaultyTokens input (λ list. DeepAt list token)
-IsSourceFault input (fault.Rule rule at) = HasRefused input (λ program. IsRefusal program (check_fault.Rule rule at))
+IsSourceFault input (fault.Rule rule at) = HasRefused input
+    (λ program. IsRefusal program (check_fault.Rule rule at))

@@ -27,13 +27,16 @@ ExplainsBytes source no_program.OutOfMemory = Unit {0}
 
 -- of tokens that spell no program
 abbrev pub ExplainsTokens : List ℕ → List Token → NoProgram → Type 0
-ExplainsTokens source tokens (no_program.Fault (fault.Syntax token)) = FaultAt (lexemes source tokens) token
-ExplainsTokens source tokens (no_program.Fault (fault.Deep token)) = DeepAt (lexemes source tokens) token
+ExplainsTokens source tokens (no_program.Fault (fault.Syntax token)) =
+    FaultAt (lexemes source tokens) token
+ExplainsTokens source tokens (no_program.Fault (fault.Deep token)) =
+    DeepAt (lexemes source tokens) token
 ExplainsTokens source tokens (no_program.Fault _) = ⊥
 ExplainsTokens source tokens no_program.OutOfMemory = Unit {0}
 
 -- of a program that is not accepted
 abbrev pub ExplainsProgram : Program → NoProgram → Type 0
-ExplainsProgram program (no_program.Fault (fault.Rule rule at)) = IsRefusal program (check_fault.Rule rule at)
+ExplainsProgram program (no_program.Fault (fault.Rule rule at)) =
+    IsRefusal program (check_fault.Rule rule at)
 ExplainsProgram program (no_program.Fault _) = ⊥
 ExplainsProgram program no_program.OutOfMemory = Unit {0}

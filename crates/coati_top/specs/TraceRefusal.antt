@@ -6,7 +6,8 @@ use Rattle.coati_top.specs.Lines.{word_and_number}
 
 -- the line of this number, counted from 1, and the word for what is wrong with it
 abbrev pub line_refusal : ℕ → List ℕ → List ℕ
-line_refusal number reason = word_and_number (codes "trace line") number ++ codes " " ++ reason ++ codes "\n"
+line_refusal number reason = word_and_number (codes "trace line") number ++ codes " " ++ reason
+    ++ codes "\n"
 
 abbrev pub trace_refusal : TraceFault → List ℕ
 trace_refusal (BadLine number) = line_refusal number (codes "bad")

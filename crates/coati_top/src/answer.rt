@@ -35,7 +35,8 @@ pub(crate) struct Reply {
 pub(crate) fn answer_to(alloc: Global, command: Command, input: &[u8]) -> Result<Reply, OutOfMemory>
     requires small { length input.now ≤ 262144 }
     requires mode { HasServedMode command }
-    ensures { IfOk result (λ reply. Answers command input.now reply.status reply.text.items reply.board) }
+    ensures { IfOk result (λ reply. Answers command input.now reply.status reply.text.items
+        reply.board) }
 {
     match read_source(alloc, input) {
         Ok(checked) => answer_about(alloc, command, input, checked),
@@ -54,7 +55,8 @@ fn answer_about(
     requires small { length input.now ≤ 262144 }
     requires mode { HasServedMode command }
     requires source { HasAccepted input.now checked }
-    ensures { IfOk result (λ reply. Answers command input.now reply.status reply.text.items reply.board) }
+    ensures { IfOk result (λ reply. Answers command input.now reply.status reply.text.items
+        reply.board) }
 {
     match command {
         Command::Check => measured(alloc, input, &checked),
@@ -71,7 +73,8 @@ fn refused(
     fault: SourceFault,
 ) -> Result<Reply, OutOfMemory>
     requires { IsSourceFault input.now fault }
-    ensures { IfOk result (λ reply. Answers command input.now reply.status reply.text.items reply.board) }
+    ensures { IfOk result (λ reply. Answers command input.now reply.status reply.text.items
+        reply.board) }
 {
     let text = refusal_text(alloc, fault)?;
     Ok(Reply {
@@ -84,7 +87,8 @@ fn refused(
 /// What `check` answers to an accepted program.
 fn measured(alloc: Global, input: &[u8], checked: &Checked) -> Result<Reply, OutOfMemory>
     requires { HasAccepted input.now checked.now }
-    ensures { IfOk result (λ reply. Answers Command.Check input.now reply.status reply.text.items reply.board) }
+    ensures { IfOk result (λ reply. Answers Command.Check input.now reply.status reply.text.items
+        reply.board) }
 {
     let text = check_text(alloc, checked)?;
     Ok(Reply {
@@ -97,7 +101,8 @@ fn measured(alloc: Global, input: &[u8], checked: &Checked) -> Result<Reply, Out
 /// What `dump` answers to an accepted program.
 fn listed(alloc: Global, input: &[u8], checked: &Checked) -> Result<Reply, OutOfMemory>
     requires { HasAccepted input.now checked.now }
-    ensures { IfOk result (λ reply. Answers Command.Dump input.now reply.status reply.text.items reply.board) }
+    ensures { IfOk result (λ reply. Answers Command.Dump input.now reply.status reply.text.items
+        reply.board) }
 {
     let code = compile(alloc, checked)?;
     let text = listing(alloc, checked, &code)?;
@@ -113,7 +118,8 @@ fn run(alloc: Global, mode: Mode, input: &[u8], checked: Checked) -> Result<Repl
     requires small { length input.now ≤ 262144 }
     requires mode { mode ≡ Mode.Split }
     requires source { HasAccepted input.now checked }
-    ensures { IfOk result (λ reply. Answers (Command.Run mode) input.now reply.status reply.text.items reply.board) }
+    ensures { IfOk result (λ reply. Answers (Command.Run mode) input.now reply.status
+        reply.text.items reply.board) }
 {
     match read_trace(alloc, &checked, second_part(input)) {
         Ok(script) => ran(alloc, mode, input, checked, script),
@@ -131,7 +137,8 @@ fn untraced(
 ) -> Result<Reply, OutOfMemory>
     requires source { HasAccepted input.now checked.now }
     requires fault { Explains checked.now (second_part input.now) fault }
-    ensures { IfOk result (λ reply. Answers (Command.Run mode) input.now reply.status reply.text.items reply.board) }
+    ensures { IfOk result (λ reply. Answers (Command.Run mode) input.now reply.status
+        reply.text.items reply.board) }
 {
     let text = trace_refusal(alloc, fault)?;
     Ok(Reply {
@@ -151,7 +158,8 @@ fn ran(
 ) -> Result<Reply, OutOfMemory>
     requires asked { AsksFor input.now checked script }
     requires mode { mode ≡ Mode.Split }
-    ensures { IfOk result (λ reply. Answers (Command.Run mode) input.now reply.status reply.text.items reply.board) }
+    ensures { IfOk result (λ reply. Answers (Command.Run mode) input.now reply.status
+        reply.text.items reply.board) }
 {
     scripts_are_within_the_limits();
     let board = run_script(alloc, checked, mode, script)?;

@@ -9,7 +9,8 @@ use task_check::Checked;
 use task_cost::{Bounds, body_cost, bounds};
 use task_syntax::BodyId;
 
-/// What is said of an accepted program: its words, its buffer, what its tasks and events cost, and its bounds.
+/// What is said of an accepted program: its words, its buffer, what its tasks and events cost, and
+/// its bounds.
 pub(crate) fn check_text(alloc: Global, checked: &Checked) -> Result<Vec<u8>, OutOfMemory>
     ensures { IfOk result (λ text. text.items ≡ check_text checked.now) }
 {
@@ -24,7 +25,8 @@ pub(crate) fn check_text(alloc: Global, checked: &Checked) -> Result<Vec<u8>, Ou
 
 /// Appends a line for each task, by number.
 fn put_tasks(out: &mut Vec<u8>, checked: &Checked) -> Result<(), OutOfMemory>
-    ensures { OnOk result (out.new.items ≡ out.old.items ++ flat_map (task_line checked.now) (tasks checked.now)) }
+    ensures { OnOk result (out.new.items ≡ out.old.items
+        ++ flat_map (task_line checked.now) (tasks checked.now)) }
 {
     for number in 0..checked.tasks() {
         let name = checked.task(number).name.text.as_slice();
@@ -35,7 +37,8 @@ fn put_tasks(out: &mut Vec<u8>, checked: &Checked) -> Result<(), OutOfMemory>
 
 /// Appends a line for each event, by number.
 fn put_events(out: &mut Vec<u8>, checked: &Checked) -> Result<(), OutOfMemory>
-    ensures { OnOk result (out.new.items ≡ out.old.items ++ flat_map (event_line checked.now) checked.now.events) }
+    ensures { OnOk result (out.new.items ≡ out.old.items
+        ++ flat_map (event_line checked.now) checked.now.events) }
 {
     for number in 0..checked.events() {
         let name = checked.event(number).name.text.as_slice();

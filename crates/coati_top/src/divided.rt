@@ -1,7 +1,8 @@
 ghost use Rattle.std.specs.Prelude.{◌≡◌, ◌+◌, ◌≤◌, length, drop};
 ghost use Rattle.coati_top.specs.Divided.{source_length, source_part, second_part, begins_divider};
 
-/// The part of an input before its first line that is exactly `%%`, or the whole input where it has none.
+/// The part of an input before its first line that is exactly `%%`, or the whole input where it
+/// has none.
 pub fn source_part(input: &[u8]) -> &[u8]
     ensures { result.now ≡ source_part input.now }
 {

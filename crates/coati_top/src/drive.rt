@@ -41,7 +41,8 @@ pub(crate) fn run_script(
 
 /// How many machine steps a run may make: those of the executor, and a handler's for each posting.
 fn greatest_steps(checked: &Checked, script: &Script) -> u32
-    requires { script.now.limit + handler_bound checked.now * length script.now.postings ≤ 4000000 }
+    requires { script.now.limit + handler_bound checked.now * length script.now.postings ≤
+        4000000 }
     ensures { result ≡ script.now.limit + handler_bound checked.now * length script.now.postings }
 {
     script.limit + bounds(checked).h * script.postings.as_slice().len() as u32

@@ -76,7 +76,8 @@ fn put_values(out: &mut Vec<u8>, board: &Board, first: u16, count: u16) -> Resul
     Ok(())
 }
 
-/// Appends the line of how many postings are held, which are those that no record of the history serves.
+/// Appends the line of how many postings are held, which are those that no record of the history
+/// serves.
 fn put_held(out: &mut Vec<u8>, board: &Board) -> Result<(), OutOfMemory>
     ensures { OnOk result (out.new.items ≡ out.old.items
         ++ held_line (length (rest_of board.now.program board.now.device.history.marks))) }

@@ -31,7 +31,8 @@ fn put_fault(out: &mut Vec<u8>, fault: SourceFault) -> Result<(), OutOfMemory>
 }
 
 fn put_broken(out: &mut Vec<u8>, rule: Rule, at: u32) -> Result<(), OutOfMemory>
-    ensures { OnOk result (out.new.items ≡ out.old.items ++ fault_text (SourceFault.Rule rule at)) }
+    ensures { OnOk result (out.new.items ≡ out.old.items
+        ++ fault_text (SourceFault.Rule rule at)) }
 {
     put_number(out, b"rule", rule_number(rule))?;
     put(out, b" ")?;

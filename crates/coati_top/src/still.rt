@@ -21,10 +21,13 @@ pub fn coati_still<S: Source, K: Sink>(
     output: &mut K,
 ) -> Done
     ensures explained { Explained (command_of (map string_bytes words.now)) result.status
-        (input_edge S.left S.faults input.old input.new) (output_edge K.taken K.faults K.spare output.old output.new) result.board }
+        (input_edge S.left S.faults input.old input.new)
+        (output_edge K.taken K.faults K.spare output.old output.new) result.board }
     ensures complete { Completes (command_of (map string_bytes words.now)) result.status
-        (input_edge S.left S.faults input.old input.new) (output_edge K.taken K.faults K.spare output.old output.new) }
-    ensures steady { S.sound input.old → IsSteadyInput result.status (input_edge S.left S.faults input.old input.new) }
+        (input_edge S.left S.faults input.old input.new)
+        (output_edge K.taken K.faults K.spare output.old output.new) }
+    ensures steady { S.sound input.old → IsSteadyInput result.status
+        (input_edge S.left S.faults input.old input.new) }
 {
     each_source_has_one_answer();
     a_list_is_one_program();
@@ -46,8 +49,10 @@ const USAGE: &[u8] = b"usage: coati check | dump | run MODE | live MODE | replay
 fn run<S: Source, K: Sink>(alloc: Global, command: Command, input: &mut S, output: &mut K) -> Done
     requires { HasServedMode command }
     ensures explained { Explains command result.status
-        (input_edge S.left S.faults input.old input.new) (output_edge K.taken K.faults K.spare output.old output.new) result.board }
-    ensures steady { S.sound input.old → IsSteadyInput result.status (input_edge S.left S.faults input.old input.new) }
+        (input_edge S.left S.faults input.old input.new)
+        (output_edge K.taken K.faults K.spare output.old output.new) result.board }
+    ensures steady { S.sound input.old → IsSteadyInput result.status
+        (input_edge S.left S.faults input.old input.new) }
 {
     match read_all(alloc, input, INPUT_BYTES) {
         Ok(bytes) => answer(alloc, command, &bytes, output),
@@ -63,7 +68,8 @@ fn run<S: Source, K: Sink>(alloc: Global, command: Command, input: &mut S, outpu
 fn answer<K: Sink>(alloc: Global, command: Command, bytes: &[u8], output: &mut K) -> Done
     requires small { length bytes.now ≤ 262144 }
     requires mode { HasServedMode command }
-    ensures { AnswersTo command bytes.now result.status (output_edge K.taken K.faults K.spare output.old output.new) result.board }
+    ensures { AnswersTo command bytes.now result.status
+        (output_edge K.taken K.faults K.spare output.old output.new) result.board }
 {
     match answer_to(alloc, command, bytes) {
         Ok(
@@ -90,9 +96,11 @@ fn without_board(status: Status) -> Done
     }
 }
 
-/// Writes the text that belongs to a status. Where that fails, `Ok` becomes a write fault, and another status stays.
+/// Writes the text that belongs to a status. Where that fails, `Ok` becomes a write fault, and
+/// another status stays.
 pub fn deliver<K: Sink>(output: &mut K, status: Status, text: &[u8]) -> Status
-    ensures { Delivers status result (output_edge K.taken K.faults K.spare output.old output.new) text.now }
+    ensures { Delivers status result (output_edge K.taken K.faults K.spare output.old output.new)
+        text.now }
 {
     match write_all(output, text) {
         Ok(()) => status,

@@ -26,4 +26,5 @@ program_code program = record { tasks = length (tasks program); bodies = program
 
 -- each body of a program fits
 abbrev pub EachFits : Program → Type 0
-EachFits program = All (λ (body : BodyRead). Fits program body.kind body.params body.statements) (bodies program)
+EachFits program = All (λ (body : BodyRead). Fits program body.kind body.params body.statements)
+    (bodies program)

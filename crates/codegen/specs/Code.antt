@@ -1,5 +1,5 @@
--- Code that is put at a place among the words of a body. Jumps count words from the body's start, so what a code is
--- depends on where it stands.
+-- Code that is put at a place among the words of a body. Jumps count words from the body's start,
+-- so what a code is depends on where it stands.
 use Rattle.std.specs.Prelude.{ℕ, ◌+◌, List, [], ◌∷◌, ◌++◌, flat_map}
 use Rattle.coati_word.specs.declared.operator.Op.TheVariants as op
 use Rattle.word_code.specs.declared.instruction.Instr.{Instr}
@@ -44,10 +44,12 @@ when_code block at = JumpZ (end_of block (at + 2)) ∷ block (at + 2)
 abbrev pub other_at : Code → ℕ → ℕ
 other_at block at = end_of block (at + 2) + 2
 
--- behind a test: a jump to the block for 0, the other block, a jump past the block for 0, and that block
+-- behind a test: a jump to the block for 0, the other block, a jump past the block for 0, and that
+-- block
 abbrev pub either_code : Code → Code → Code
 either_code block other at =
-    JumpZ (other_at block at) ∷ (block (at + 2) ++ (Jump (end_of other (other_at block at)) ∷ other (other_at block at)))
+    JumpZ (other_at block at) ∷ (block (at + 2)
+    ++ (Jump (end_of other (other_at block at)) ∷ other (other_at block at)))
 
 -- the head of a loop, four words behind its start: where the turns are over it jumps to the end
 abbrev pub head_code : ℕ → ℕ → ℕ → List Instr
@@ -60,4 +62,5 @@ turn_code slot head = GetL slot ∷ Push 1 ∷ Two op.Add ∷ SetL slot ∷ Jump
 -- a loop: its block stands eleven words behind its start, and nine words behind the block it ends
 abbrev pub loop_code : ℕ → ℕ → Code → Code
 loop_code slot count block at =
-    Push 0 ∷ SetL slot ∷ (head_code slot count (end_of block (at + 11) + 9) ++ (block (at + 11) ++ turn_code slot (at + 4)))
+    Push 0 ∷ SetL slot ∷ (head_code slot count (end_of block (at + 11) + 9)
+    ++ (block (at + 11) ++ turn_code slot (at + 4)))

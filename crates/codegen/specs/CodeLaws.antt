@@ -1,5 +1,5 @@
--- What code keeps to: it does what its body means, it has the words that were counted, and it stands where its body's number
--- says.
+-- What code keeps to: it does what its body means, it has the words that were counted, and it
+-- stands where its body's number says.
 use Rattle.std.specs.Prelude.{ℕ, ◌≡◌, List, length, Some}
 use Rattle.task_syntax.specs.declared.name.Name.{Name}
 use Rattle.task_syntax.specs.declared.program.Program.{Program}
@@ -25,24 +25,29 @@ use Rattle.codegen.specs.Templates.{body_code, body_words}
 
 -- the course of a body whose parameters are these words
 abbrev pub course_on : Program → List Name → List Stmt → List ℕ → Course Ending
-course_on program params stmts values = meaning.body program stmts (with_words params values no_locals)
+course_on program params stmts values = meaning.body program stmts
+    (with_words params values no_locals)
 
 -- the words of a body that fits compute its course, whatever its parameters are
 abbrev pub FittingBodiesComputeTheirCourse : Type 0
 FittingBodiesComputeTheirCourse =
-    (program : Program) (kind : Kind) (params : List Name) (stmts : List Stmt) → Fits program kind params stmts →
+    (program : Program) (kind : Kind) (params : List Name) (stmts : List Stmt) →
+    Fits program kind params stmts →
     (values : List ℕ) → length values ≡ length params →
-    Computes (body_words program kind params stmts) (word_count program.vars) (body_cost program stmts kind) values (course_on program params stmts values)
+    Computes (body_words program kind params stmts) (word_count program.vars)
+    (body_cost program stmts kind) values (course_on program params stmts values)
 
 -- the instructions of a body that fits have their operands in their ranges
 abbrev pub FittingCodeIsEncodable : Type 0
 FittingCodeIsEncodable =
-    (program : Program) (kind : Kind) (params : List Name) (stmts : List Stmt) → Fits program kind params stmts → AreEncodable (body_code program kind params stmts)
+    (program : Program) (kind : Kind) (params : List Name) (stmts : List Stmt) →
+    Fits program kind params stmts → AreEncodable (body_code program kind params stmts)
 
 -- the code of a body has as many words as were counted
 abbrev pub CodeHasItsWords : Type 0
 CodeHasItsWords =
-    (program : Program) (kind : Kind) (params : List Name) (stmts : List Stmt) → length (body_words program kind params stmts) ≡ counted.body_words stmts kind
+    (program : Program) (kind : Kind) (params : List Name) (stmts : List Stmt) →
+    length (body_words program kind params stmts) ≡ counted.body_words stmts kind
 
 -- the body stands among the code of the program, under its number
 pub record StandsByNumber (program : Program) (number : BodyId) (body : BodyRead) : Type 0 where
@@ -51,12 +56,15 @@ pub record StandsByNumber (program : Program) (number : BodyId) (body : BodyRead
 
 -- so does each body
 abbrev pub BodiesStandByNumber : Type 0
-BodiesStandByNumber = (program : Program) (number : BodyId) (body : BodyRead) → body_of program number ≡ Some body → StandsByNumber program number body
+BodiesStandByNumber = (program : Program) (number : BodyId) (body : BodyRead) →
+    body_of program number ≡ Some body → StandsByNumber program number body
 
 -- in a program whose bodies fit, each computes its course from where it stands
 abbrev pub FittingProgramsComputeTheirCourses : Type 0
 FittingProgramsComputeTheirCourses =
-    (program : Program) → EachFits program → (number : BodyId) (body : BodyRead) → body_of program number ≡ Some body →
+    (program : Program) → EachFits program → (number : BodyId) (body : BodyRead) →
+    body_of program number ≡ Some body →
     (values : List ℕ) → length values ≡ length body.params →
-    Computes (words.body_words (program_code program) number) (word_count program.vars) (body_cost program body.statements body.kind) values
+    Computes (words.body_words (program_code program) number) (word_count program.vars)
+    (body_cost program body.statements body.kind) values
     (course_on program body.params body.statements values)

@@ -1,6 +1,7 @@
--- What a body keeps, so that its code does what it means. Each part is a fold of its own: names that are used are in scope,
--- names that are declared are not; a loop's name is not assigned in the loop; a loop has at most
--- 50,000 turns, and a message at most four words; a task and a top half end.
+-- What a body keeps, so that its code does what it means. Each part is a fold of its own: names
+-- that are used are in scope, names that are declared are not; a loop's name is not assigned in
+-- the loop; a loop has at most 50,000 turns, and a message at most four words; a task and a top
+-- half end.
 use Rattle.std.specs.Prelude.{ℕ, ◌≡◌, ◌≤◌, Bool, true, ◌&&◌, ◌||◌, not, nat_le, List, [], ◌∷◌, map, length, Option, Some, None, is_some}
 use Rattle.std.specs.List.{list_all}
 use Rattle.task_syntax.specs.declared.name.Name.{Name}
@@ -37,11 +38,17 @@ uses fits known = record { fits = fits known; known = known }
 
 -- a new name, behind the value that it gets
 abbrev pub declares : List ℕ → (List (List ℕ) → Bool) → Part
-declares name value known = record { fits = value known && not (is_among known name); known = name ∷ known }
+declares name value known = record {
+  fits = value known && not (is_among known name);
+  known = name ∷ known;
+}
 
 -- what follows with the locals that it leaves
 abbrev pub followed : Passed → Part → Passed
-followed first next = record { fits = first.fits && (next first.known).fits; known = (next first.known).known }
+followed first next = record {
+  fits = first.fits && (next first.known).fits;
+  known = (next first.known).known;
+}
 
 -- one statement behind another
 abbrev pub in_turn : List Part → Part
@@ -59,24 +66,30 @@ loop_fits name block known = not (is_among known name) && (block (name ∷ known
 
 module _ (program : Program) where
   -- one layer of an expression
-  abbrev pub expression_names_step : Expr-F (List (List ℕ) → Bool) (List (List ℕ) → Bool) → List (List ℕ) → Bool
+  abbrev pub expression_names_step : Expr-F (List (List ℕ) → Bool) (List (List ℕ) → Bool) →
+      List (List ℕ) → Bool
   expression_names_step (Expr-F.Num number) known = true
   expression_names_step (Expr-F.Get place) known = place known
   expression_names_step (Expr-F.One op operand) known = operand known
   expression_names_step (Expr-F.Two op left right) known = left known && right known
 
   -- one layer of a place: a variable, or a local in scope; an item is one of a variable
-  abbrev pub place_names_step : Place-F (List (List ℕ) → Bool) (List (List ℕ) → Bool) → List (List ℕ) → Bool
-  place_names_step (Place-F.Plain name) known = is_some (words_of program name.text) || is_among known name.text
-  place_names_step (Place-F.Item name index) known = is_some (words_of program name.text) && index known
+  abbrev pub place_names_step : Place-F (List (List ℕ) → Bool) (List (List ℕ) → Bool) →
+      List (List ℕ) → Bool
+  place_names_step (Place-F.Plain name) known = is_some (words_of program name.text)
+      || is_among known name.text
+  place_names_step (Place-F.Item name index) known = is_some (words_of program name.text)
+      && index known
 
   -- the names of an expression are in scope
   abbrev pub expression_names : Expr → List (List ℕ) → Bool
-  expression_names = fold-Expr (List (List ℕ) → Bool) (List (List ℕ) → Bool) expression_names_step place_names_step
+  expression_names = fold-Expr (List (List ℕ) → Bool) (List (List ℕ) →
+      Bool) expression_names_step place_names_step
 
   -- those of a place are
   abbrev pub place_names : Place → List (List ℕ) → Bool
-  place_names = fold-Place (List (List ℕ) → Bool) (List (List ℕ) → Bool) expression_names_step place_names_step
+  place_names = fold-Place (List (List ℕ) → Bool) (List (List ℕ) →
+      Bool) expression_names_step place_names_step
 
   -- those of expressions are
   abbrev pub expressions_names : List Expr → List (List ℕ) → Bool
@@ -85,10 +98,13 @@ module _ (program : Program) where
   -- one layer of a statement
   abbrev pub statement_names_step : Stmt-F Part → Part
   statement_names_step (Stmt-F.Let name e) = declares name.text (expression_names e)
-  statement_names_step (Stmt-F.Assign place e) = uses (λ known. place_names place known && expression_names e known)
+  statement_names_step (Stmt-F.Assign place e) =
+      uses (λ known. place_names place known && expression_names e known)
   statement_names_step (Stmt-F.If condition block other) =
-      uses (λ known. expression_names condition known && ((in_turn block known).fits && otherwise other known))
-  statement_names_step (Stmt-F.Repeat name count block) = uses (loop_fits name.text (in_turn block))
+      uses (λ known. expression_names condition known
+      && ((in_turn block known).fits && otherwise other known))
+  statement_names_step (Stmt-F.Repeat name count block) =
+      uses (loop_fits name.text (in_turn block))
   statement_names_step (Stmt-F.Next name) = uses (λ known. is_some (task_of program name.text))
   statement_names_step (Stmt-F.Halt at) = uses (λ known. true)
   statement_names_step (Stmt-F.Give es at) = uses (expressions_names es)
@@ -130,7 +146,8 @@ place_spares = fold-Place Sparing Sparing expression_spares_step place_spares_st
 abbrev pub statement_spares_step : Stmt-F Sparing → Sparing
 statement_spares_step (Stmt-F.Let name e) loops = true
 statement_spares_step (Stmt-F.Assign place e) loops = place_spares place loops
-statement_spares_step (Stmt-F.If condition block other) loops = all_spare block loops && other_spares other loops
+statement_spares_step (Stmt-F.If condition block other) loops =
+    all_spare block loops && other_spares other loops
 statement_spares_step (Stmt-F.Repeat name count block) loops = all_spare block (name.text ∷ loops)
 statement_spares_step (Stmt-F.Next name) loops = true
 statement_spares_step (Stmt-F.Halt at) loops = true
@@ -168,7 +185,8 @@ opening_names [] known = known
 opening_names (name ∷ names) known = opening_names names (name.text ∷ known)
 
 -- a body of this kind with these parameters fits
-pub record Fits (program : Program) (kind : Kind) (params : List Name) (stmts : List Stmt) : Type 0 where
+pub record Fits (program : Program) (kind : Kind) (params : List Name) (stmts : List Stmt)
+    : Type 0 where
   pub arrays : HasNoEmptyArray program
   pub names : (statements_names program stmts (opening_names params [])).fits ≡ true
   pub loops : statements_spare stmts [] ≡ true

@@ -1,5 +1,5 @@
--- The listing of a program's code: for each body a line with its kind and its name, and then a line for each instruction,
--- with the word at which it starts, its text and its operands.
+-- The listing of a program's code: for each body a line with its kind and its name, and then a
+-- line for each instruction, with the word at which it starts, its text and its operands.
 use Rattle.std.specs.Prelude.{ℕ, zero, suc, ◌+◌, ◌-◌, List, [], ◌∷◌, ◌++◌, Option, Some, None, codes, decimal, flat_map}
 use Rattle.coati_word.specs.declared.operator.Op.{Op}
 use Rattle.coati_word.specs.declared.operator.Op.TheVariants as op
@@ -81,7 +81,8 @@ operand_field operand = field (decimal operand)
 
 -- the line of an instruction at a word
 abbrev pub instr_line : ℕ → Instr → List ℕ
-instr_line at instr = decimal at ++ (field (instr_text instr) ++ (flat_map operand_field (operands instr) ++ codes "\n"))
+instr_line at instr = decimal at ++ (field (instr_text instr)
+    ++ (flat_map operand_field (operands instr) ++ codes "\n"))
 
 -- the line of what starts at a word, where an instruction does
 abbrev pub line_at : ℕ → Option (Instr × ℕ) → List ℕ
@@ -93,11 +94,13 @@ abbrev pub operand_count : Option (Instr × ℕ) → ℕ
 operand_count None = 0
 operand_count (Some found) = found.1 - 1
 
--- the lines of the instructions among words that begin at a word, of which so many are operands of what stands before them
+-- the lines of the instructions among words that begin at a word, of which so many are operands of
+-- what stands before them
 abbrev pub lines_from : ℕ → ℕ → List ℕ → List ℕ
 lines_from at operands [] = []
 lines_from at (suc operands) (word ∷ words) = lines_from (at + 1) operands words
-lines_from at zero (word ∷ words) = line_at at (decoded (word ∷ words)) ++ lines_from (at + 1) (operand_count (decoded (word ∷ words))) words
+lines_from at zero (word ∷ words) = line_at at (decoded (word ∷ words))
+    ++ lines_from (at + 1) (operand_count (decoded (word ∷ words))) words
 
 -- the lines of a body, by its kind, its name and its words
 abbrev pub body_lines : List ℕ → List ℕ → List ℕ → List ℕ
@@ -105,7 +108,8 @@ body_lines kind name words = kind ++ (field name ++ (codes "\n" ++ lines_from 0 
 
 module _ (program : Program) where
   abbrev pub task_lines : TaskDecl → List ℕ
-  task_lines task = body_lines (codes "task") task.name.text (words_of_body program (task_body task))
+  task_lines task = body_lines (codes "task") task.name.text
+      (words_of_body program (task_body task))
 
   -- both halves of an event have its name
   abbrev pub event_lines : Event → List ℕ

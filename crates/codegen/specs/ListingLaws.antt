@@ -12,4 +12,5 @@ instr_lines at (instr ∷ more) = instr_line at instr ++ instr_lines (at + width
 
 -- the words of encodable instructions are listed as these instructions
 abbrev pub EachInstructionHasItsLine : Type 0
-EachInstructionHasItsLine = (instrs : List Instr) (at : ℕ) → AreEncodable instrs → lines_from at 0 (words_of instrs) ≡ instr_lines at instrs
+EachInstructionHasItsLine = (instrs : List Instr) (at : ℕ) → AreEncodable instrs →
+    lines_from at 0 (words_of instrs) ≡ instr_lines at instrs

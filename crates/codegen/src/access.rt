@@ -17,9 +17,15 @@ pub(crate) struct Access {
     pub(crate) store: Instr,
 }
 
-/// Those of a scalar or a local. A variable has its name alone, so in a checked program another name is a local in scope.
+/// Those of a scalar or a local. A variable has its name alone, so in a checked program another
+/// name is a local in scope.
 pub(crate) fn plain_access(checked: &Checked, scope: &Scope, name: &Name) -> Access
-    ensures code { plain_code (words_of checked.now name.now.text) (slot_of scope.now.locals name.now.text) ≡ record { index = []; load = result.load; store = result.store } }
+    ensures code { plain_code (words_of checked.now name.now.text)
+        (slot_of scope.now.locals name.now.text) ≡ record {
+          index = [];
+          load = result.load;
+          store = result.store;
+        } }
     ensures load { width result.load ≡ 2 }
     ensures store { width result.store ≡ 2 }
 {
@@ -40,7 +46,8 @@ pub(crate) fn plain_access(checked: &Checked, scope: &Scope, name: &Name) -> Acc
 
 /// Those of an item of an array, as which a checked program takes nothing else.
 pub(crate) fn item_access(checked: &Checked, name: &Name) -> Access
-    ensures code { (index : List Instr) → item_code index (words_of checked.now name.now.text) ≡ record { index = index; load = result.load; store = result.store } }
+    ensures code { (index : List Instr) → item_code index (words_of checked.now name.now.text)
+        ≡ record { index = index; load = result.load; store = result.store } }
     ensures load { width result.load ≡ 3 }
     ensures store { width result.store ≡ 3 }
 {

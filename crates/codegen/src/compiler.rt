@@ -18,7 +18,8 @@ use task_check::Checked;
 use task_syntax::{Event, Kind, Name, Stmt, TaskDecl, UnitDecl};
 use word_code::Code;
 
-/// The code of a program: exactly the words of the templates, body by body. It is refused only where memory is.
+/// The code of a program: exactly the words of the templates, body by body. It is refused only
+/// where memory is.
 pub fn compile(alloc: Global, checked: &Checked) -> Result<Code, OutOfMemory>
     ensures { IfOk result (λ code. code ≡ program_code checked.now) }
 {
@@ -37,8 +38,10 @@ fn put_units(
     units: &[UnitDecl],
     code: &mut Code,
 ) -> Result<(), OutOfMemory>
-    requires { All (λ (unit : UnitDecl). All (λ (task : TaskDecl). Fits checked.now kind.Task [] task.body) (tasks_of_unit unit)) units.now }
-    ensures { OnOk result (code.new ≡ with_bodies (map (task_words checked.now) (flat_map tasks_of_unit units.now)) code.old) }
+    requires { All (λ (unit : UnitDecl). All (λ (task : TaskDecl). Fits checked.now kind.Task []
+        task.body) (tasks_of_unit unit)) units.now }
+    ensures { OnOk result (code.new ≡ with_bodies
+        (map (task_words checked.now) (flat_map tasks_of_unit units.now)) code.old) }
 {
     for unit in units {
         put_tasks(alloc, checked, unit.tasks(), code)?;
@@ -54,7 +57,8 @@ fn put_tasks(
     code: &mut Code,
 ) -> Result<(), OutOfMemory>
     requires { All (λ (task : TaskDecl). Fits checked.now kind.Task [] task.body) tasks.now }
-    ensures { OnOk result (code.new ≡ with_bodies (map (task_words checked.now) tasks.now) code.old) }
+    ensures { OnOk result (code.new ≡ with_bodies (map (task_words checked.now) tasks.now)
+        code.old) }
 {
     for task in tasks {
         put_body(alloc, checked, Kind::Task, &[], task.body.as_slice(), code)?;
@@ -69,9 +73,12 @@ fn put_events(
     events: &[Event],
     code: &mut Code,
 ) -> Result<(), OutOfMemory>
-    requires tops { All (λ (event : Event). Fits checked.now kind.Top (event.argument ∷ []) event.top) events.now }
-    requires bottoms { All (λ (event : Event). Fits checked.now kind.Bottom event.params event.bottom) events.now }
-    ensures { OnOk result (code.new ≡ with_bodies (flat_map (half_words checked.now) events.now) code.old) }
+    requires tops { All (λ (event : Event). Fits checked.now kind.Top (event.argument
+        ∷ []) event.top) events.now }
+    requires bottoms { All (λ (event : Event). Fits checked.now kind.Bottom event.params
+        event.bottom) events.now }
+    ensures { OnOk result (code.new ≡ with_bodies (flat_map (half_words checked.now) events.now)
+        code.old) }
 {
     for event in events {
         put_halves(alloc, checked, event, code)?;
@@ -108,7 +115,8 @@ fn put_body(
     code: &mut Code,
 ) -> Result<(), OutOfMemory>
     requires { Fits checked.now kind params.now body.now }
-    ensures { OnOk result (code.new ≡ with_bodies (body_words checked.now kind params.now body.now ∷ []) code.old) }
+    ensures { OnOk result (code.new ≡ with_bodies (body_words checked.now kind params.now body.now
+        ∷ []) code.old) }
 {
     let words = body_words(alloc, checked, kind, params, body)?;
     code.push(&words)

@@ -26,7 +26,8 @@ pub(crate) fn body_words(
     body: &[Stmt],
 ) -> Result<Vec<u16>, OutOfMemory>
     requires { Fits checked.now kind params.now body.now }
-    ensures { IfOk result (λ words. words.items ≡ body_words checked.now kind params.now body.now) }
+    ensures { IfOk result (λ words. words.items
+        ≡ body_words checked.now kind params.now body.now) }
 {
     fitting_code_is_encodable();
     let code = body_code(alloc, checked, kind, params, body)?;
@@ -43,7 +44,8 @@ fn body_code(
 ) -> Result<Segment, OutOfMemory>
     requires words { counted.body_words body.now kind ≤ 50000 }
     requires locals { local_count body.now (length params.now) ≤ 32 }
-    ensures { IfOk result (λ code. code.instrs.items ≡ body_code checked.now kind params.now body.now) }
+    ensures { IfOk result (λ code. code.instrs.items
+        ≡ body_code checked.now kind params.now body.now) }
 {
     let mut scope = Scope::new(alloc);
     declare_all(&mut scope, params)?;

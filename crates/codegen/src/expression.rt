@@ -19,7 +19,8 @@ pub(crate) fn put_expression(
     out: &mut Segment,
 ) -> Result<(), OutOfMemory>
     requires { out.old.end + expression_words value.now ≤ 50000 }
-    ensures code { OnOk result (out.new.instrs.items ≡ out.old.instrs.items ++ expression_code checked.now value.now scope.now.locals) }
+    ensures code { OnOk result (out.new.instrs.items ≡ out.old.instrs.items
+        ++ expression_code checked.now value.now scope.now.locals) }
     ensures end { OnOk result (out.new.end ≡ out.old.end + expression_words value.now) }
 {
     match value {
@@ -45,7 +46,9 @@ fn put_load(
     out: &mut Segment,
 ) -> Result<(), OutOfMemory>
     requires { out.old.end + access_words place.now ≤ 50000 }
-    ensures code { OnOk result (out.new.instrs.items ≡ out.old.instrs.items ++ ((place_code checked.now place.now scope.now.locals).index ++ (place_code checked.now place.now scope.now.locals).load ∷ [])) }
+    ensures code { OnOk result (out.new.instrs.items ≡ out.old.instrs.items
+        ++ ((place_code checked.now place.now scope.now.locals).index
+        ++ (place_code checked.now place.now scope.now.locals).load ∷ [])) }
     ensures end { OnOk result (out.new.end ≡ out.old.end + access_words place.now) }
 {
     match place {
@@ -69,7 +72,8 @@ pub(crate) fn put_expressions(
     out: &mut Segment,
 ) -> Result<(), OutOfMemory>
     requires { out.old.end + expressions_words values.now ≤ 50000 }
-    ensures code { OnOk result (out.new.instrs.items ≡ out.old.instrs.items ++ expressions_code checked.now values.now scope.now.locals) }
+    ensures code { OnOk result (out.new.instrs.items ≡ out.old.instrs.items
+        ++ expressions_code checked.now values.now scope.now.locals) }
     ensures end { OnOk result (out.new.end ≡ out.old.end + expressions_words values.now) }
 {
     for value in values {

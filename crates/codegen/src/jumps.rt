@@ -6,18 +6,20 @@ use crate::segment::Segment;
 use coati_word::{Op, OutOfMemory};
 use word_code::Instr;
 
-/// Behind a condition: a block that stands two words behind it, and where the condition is 0 a jump past the block.
+/// Behind a condition: a block that stands two words behind it, and where the condition is 0 a
+/// jump past the block.
 pub(crate) fn put_when(out: &mut Segment, block: Segment) -> Result<(), OutOfMemory>
     requires { out.old.end + 2 ≤ 50000 }
-    ensures code { OnOk result (out.new.instrs.items ≡ out.old.instrs.items ++ (JumpZ block.end ∷ block.instrs.items)) }
+    ensures code { OnOk result (out.new.instrs.items ≡ out.old.instrs.items
+        ++ (JumpZ block.end ∷ block.instrs.items)) }
     ensures end { OnOk result (out.new.end ≡ block.end) }
 {
     out.push(Instr::JumpZ(block.end))?;
     out.append(block)
 }
 
-/// Behind a condition: a block that stands two words behind it, and another that stands two words behind the first, where
-/// the condition is 0.
+/// Behind a condition: a block that stands two words behind it, and another that stands two words
+/// behind the first, where the condition is 0.
 pub(crate) fn put_choice(
     out: &mut Segment,
     block: Segment,
@@ -25,7 +27,9 @@ pub(crate) fn put_choice(
 ) -> Result<(), OutOfMemory>
     requires test { out.old.end + 2 ≤ 50000 }
     requires end { block.end + 2 ≤ 50000 }
-    ensures code { OnOk result (out.new.instrs.items ≡ out.old.instrs.items ++ (JumpZ (block.end + 2) ∷ (block.instrs.items ++ (Jump other.end ∷ other.instrs.items)))) }
+    ensures code { OnOk result (out.new.instrs.items ≡ out.old.instrs.items
+        ++ (JumpZ (block.end + 2) ∷ (block.instrs.items
+        ++ (Jump other.end ∷ other.instrs.items)))) }
     ensures end { OnOk result (out.new.end ≡ other.end) }
 {
     out.push(Instr::JumpZ(block.end + 2))?;
@@ -43,7 +47,9 @@ pub(crate) fn put_loop(
 ) -> Result<(), OutOfMemory>
     requires start { out.old.end + 11 ≤ 50000 }
     requires end { block.end + 9 ≤ 50000 }
-    ensures code { OnOk result (out.new.instrs.items ≡ out.old.instrs.items ++ (Push 0 ∷ SetL slot ∷ (head_code slot count (block.end + 9) ++ (block.instrs.items ++ turn_code slot (out.old.end + 4))))) }
+    ensures code { OnOk result (out.new.instrs.items ≡ out.old.instrs.items
+        ++ (Push 0 ∷ SetL slot ∷ (head_code slot count (block.end + 9)
+        ++ (block.instrs.items ++ turn_code slot (out.old.end + 4))))) }
     ensures end { OnOk result (out.new.end ≡ block.end + 9) }
 {
     let head = out.end + 4;

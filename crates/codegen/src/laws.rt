@@ -13,8 +13,9 @@ ghost use Rattle.codegen.specs.ProgramLaws.{BottomHalvesComputeTheirCourse, Task
 use task_check::laws::accepted_messages_are_short;
 use word_code::laws::instructions_are_their_words;
 
-/// The words of a body that fits do what the body means: on any memory they make its reads and writes in their order, and
-/// end as it ends, within its cost; all the while an instruction can run.
+/// The words of a body that fits do what the body means: on any memory they make its reads and
+/// writes in their order, and end as it ends, within its cost; all the while an instruction can
+/// run.
 pub fn fitting_bodies_compute_their_course()
     ensures bodies { FittingBodiesComputeTheirCourse }
     ensures programs { FittingProgramsComputeTheirCourses }
@@ -50,8 +51,8 @@ pub fn accepted_bodies_fit()
     accepted_messages_are_short();
 }
 
-/// The code of an accepted program does what the program means: each body, found by its number, follows its course within
-/// its cost, and is never stuck.
+/// The code of an accepted program does what the program means: each body, found by its number,
+/// follows its course within its cost, and is never stuck.
 pub fn accepted_programs_compute_their_courses()
     ensures tasks { TasksComputeTheirCourse }
     ensures tops { TopHalvesComputeTheirCourse }

@@ -37,7 +37,8 @@ fn put_line(out: &mut Vec<u8>, at: usize, instr: &Instr) -> Result<(), OutOfMemo
 }
 
 fn put_operands(out: &mut Vec<u8>, instr: &Instr) -> Result<(), OutOfMemory>
-    ensures { OnOk result (out.new.items ≡ out.old.items ++ flat_map operand_field (operands instr.now)) }
+    ensures { OnOk result (out.new.items ≡ out.old.items
+        ++ flat_map operand_field (operands instr.now)) }
 {
     match instr {
         Instr::LoadX(first, length) | Instr::StoreX(first, length) => {

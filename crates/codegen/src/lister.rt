@@ -12,8 +12,8 @@ use task_check::Checked;
 use task_syntax::{BodyId, Event, Name, TaskDecl};
 use word_code::Code;
 
-/// The listing of a program's code: for each body a line with its kind and its name, and then a line for each instruction.
-/// It is refused only where memory is.
+/// The listing of a program's code: for each body a line with its kind and its name, and then a
+/// line for each instruction. It is refused only where memory is.
 pub fn listing(alloc: Global, checked: &Checked, code: &Code) -> Result<Vec<u8>, OutOfMemory>
     requires { code.now ≡ program_code checked.now }
     ensures { IfOk result (λ text. text.items ≡ listing checked.now) }
@@ -26,7 +26,8 @@ pub fn listing(alloc: Global, checked: &Checked, code: &Code) -> Result<Vec<u8>,
 
 fn put_tasks(out: &mut Vec<u8>, checked: &Checked, code: &Code) -> Result<(), OutOfMemory>
     requires { code.now ≡ program_code checked.now }
-    ensures { OnOk result (out.new.items ≡ out.old.items ++ flat_map (task_lines checked.now) (tasks checked.now)) }
+    ensures { OnOk result (out.new.items ≡ out.old.items
+        ++ flat_map (task_lines checked.now) (tasks checked.now)) }
 {
     for number in 0..checked.tasks() {
         put_task(out, checked, code, number, checked.task(number))?;
@@ -51,7 +52,8 @@ fn put_task(
 
 fn put_events(out: &mut Vec<u8>, checked: &Checked, code: &Code) -> Result<(), OutOfMemory>
     requires { code.now ≡ program_code checked.now }
-    ensures { OnOk result (out.new.items ≡ out.old.items ++ flat_map (event_lines checked.now) checked.now.events) }
+    ensures { OnOk result (out.new.items ≡ out.old.items
+        ++ flat_map (event_lines checked.now) checked.now.events) }
 {
     for number in 0..checked.events() {
         put_event(out, checked, code, number, checked.event(number))?;
@@ -80,7 +82,8 @@ fn put_event(
 fn words_of<'a>(checked: &Checked, code: &'a Code, number: BodyId) -> &'a [u16]
     requires code { code.now ≡ program_code checked.now }
     requires body { IsSome (body_of checked.now number) }
-    ensures words { (body : BodyRead) → body_of checked.now number ≡ Some body → result.now ≡ words_of_body checked.now body }
+    ensures words { (body : BodyRead) → body_of checked.now number ≡ Some body →
+        result.now ≡ words_of_body checked.now body }
     ensures few { length result.now ≤ 50000 }
 {
     accepted_bodies_fit();
@@ -91,7 +94,8 @@ fn words_of<'a>(checked: &Checked, code: &'a Code, number: BodyId) -> &'a [u16]
 
 fn put_body(out: &mut Vec<u8>, kind: &[u8], name: &Name, words: &[u16]) -> Result<(), OutOfMemory>
     requires { length words.now ≤ 50000 }
-    ensures { OnOk result (out.new.items ≡ out.old.items ++ body_lines kind.now name.now.text words.now) }
+    ensures { OnOk result (out.new.items ≡ out.old.items
+        ++ body_lines kind.now name.now.text words.now) }
 {
     put(out, kind)?;
     put_field(out, name.text.as_slice())?;

@@ -1,4 +1,5 @@
-//! What the definition of a listing tells: the function's contract is a law, and its body is empty.
+//! What the definition of a listing tells: the function's contract is a law, and its body is
+//! empty.
 
 ghost use Rattle.codegen.specs.ListingLaws.{EachInstructionHasItsLine};
 

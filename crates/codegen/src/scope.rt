@@ -29,7 +29,10 @@ impl<'a> Model for Scope<'a> {
 
     ghost Value = { Scope };
 
-    ghost view = { λ scope. record { locals = map local_of scope.locals.items; next = scope.next } };
+    ghost view = { λ scope. record {
+      locals = map local_of scope.locals.items;
+      next = scope.next;
+    } };
 }
 
 impl<'a> Scope<'a> {
@@ -82,7 +85,8 @@ impl<'a> Scope<'a> {
         })
     }
 
-    /// Goes on behind a block, which led to the inner scope. The slots of the block are not used again.
+    /// Goes on behind a block, which led to the inner scope. The slots of the block are not used
+    /// again.
     pub(crate) fn pass(&mut self, inner: Scope<'a>)
         ensures { self.new ≡ behind_block self.old inner.entry }
     {

@@ -28,7 +28,8 @@ impl Segment {
 
     pub(crate) fn push(&mut self, instr: Instr) -> Result<(), OutOfMemory>
         requires { self.old.end + width instr ≤ 50000 }
-        ensures instrs { OnOk result (self.new.instrs.items ≡ self.old.instrs.items ++ instr ∷ []) }
+        ensures instrs { OnOk result (self.new.instrs.items ≡ self.old.instrs.items
+            ++ instr ∷ []) }
         ensures end { OnOk result (self.new.end ≡ self.old.end + width instr) }
     {
         self.instrs.push(instr)?;
@@ -38,7 +39,8 @@ impl Segment {
 
     pub(crate) fn push_all(&mut self, instrs: &[Instr]) -> Result<(), OutOfMemory>
         requires { self.old.end + size instrs.now ≤ 50000 }
-        ensures instrs { OnOk result (self.new.instrs.items ≡ self.old.instrs.items ++ instrs.now) }
+        ensures instrs { OnOk result (self.new.instrs.items ≡ self.old.instrs.items
+            ++ instrs.now) }
         ensures end { OnOk result (self.new.end ≡ self.old.end + size instrs.now) }
     {
         for instr in instrs {
@@ -49,7 +51,8 @@ impl Segment {
 
     /// Puts a segment behind this one that begins where this one ends.
     pub(crate) fn append(&mut self, more: Segment) -> Result<(), OutOfMemory>
-        ensures instrs { OnOk result (self.new.instrs.items ≡ self.old.instrs.items ++ more.instrs.items) }
+        ensures instrs { OnOk result (self.new.instrs.items ≡ self.old.instrs.items
+            ++ more.instrs.items) }
         ensures end { OnOk result (self.new.end ≡ more.end) }
     {
         self.instrs.extend_from_slice(&more.instrs)?;

@@ -16,7 +16,8 @@ use task_check::Checked;
 use task_syntax::{Expr, Name, Place, Stmt};
 use word_code::Instr;
 
-/// Appends the code of a statement, and goes on in the scope behind it. In a checked program a `next` names a task.
+/// Appends the code of a statement, and goes on in the scope behind it. In a checked program a
+/// `next` names a task.
 #[cycle(statement)]
 fn put_statement<'a>(
     alloc: Global,
@@ -27,9 +28,11 @@ fn put_statement<'a>(
 ) -> Result<(), OutOfMemory>
     requires words { out.old.end + statement_words statement.now ≤ 50000 }
     requires slots { scope.old.next + declared_count statement.now ≤ 32 }
-    ensures code { OnOk result (out.new.instrs.items ≡ out.old.instrs.items ++ (statement_code checked.now statement.now scope.old).code out.old.end) }
+    ensures code { OnOk result (out.new.instrs.items ≡ out.old.instrs.items
+        ++ (statement_code checked.now statement.now scope.old).code out.old.end) }
     ensures end { OnOk result (out.new.end ≡ out.old.end + statement_words statement.now) }
-    ensures scope { OnOk result (scope.new ≡ (statement_code checked.now statement.now scope.old).behind) }
+    ensures scope { OnOk result (scope.new ≡ (statement_code checked.now statement.now
+        scope.old).behind) }
     ensures slots { OnOk result (scope.new.next ≡ scope.old.next + declared_count statement.now) }
 {
     match statement {
@@ -75,9 +78,11 @@ fn block_code<'a>(
 ) -> Result<Segment, OutOfMemory>
     requires words { at + statements_words block.now ≤ 50000 }
     requires slots { scope.old.next + declared_counts block.now ≤ 32 }
-    ensures code { IfOk result (λ code. code.instrs.items ≡ (statements_code checked.now block.now scope.old).code at) }
+    ensures code { IfOk result (λ code. code.instrs.items
+        ≡ (statements_code checked.now block.now scope.old).code at) }
     ensures end { IfOk result (λ code. code.end ≡ at + statements_words block.now) }
-    ensures scope { OnOk result (scope.new ≡ behind_block scope.old (statements_code checked.now block.now scope.old).behind) }
+    ensures scope { OnOk result (scope.new ≡ behind_block scope.old
+        (statements_code checked.now block.now scope.old).behind) }
     ensures slots { OnOk result (scope.new.next ≡ scope.old.next + declared_counts block.now) }
 {
     let mut inner = scope.within(alloc)?;
@@ -99,9 +104,11 @@ fn loop_block_code<'a>(
 ) -> Result<Segment, OutOfMemory>
     requires words { at + statements_words block.now ≤ 50000 }
     requires slots { scope.old.next + 1 + declared_counts block.now ≤ 32 }
-    ensures code { IfOk result (λ code. code.instrs.items ≡ (statements_code checked.now block.now (declare name.now.text scope.old)).code at) }
+    ensures code { IfOk result (λ code. code.instrs.items
+        ≡ (statements_code checked.now block.now (declare name.now.text scope.old)).code at) }
     ensures end { IfOk result (λ code. code.end ≡ at + statements_words block.now) }
-    ensures scope { OnOk result (scope.new ≡ behind_block scope.old (statements_code checked.now block.now (declare name.now.text scope.old)).behind) }
+    ensures scope { OnOk result (scope.new ≡ behind_block scope.old
+        (statements_code checked.now block.now (declare name.now.text scope.old)).behind) }
     ensures slots { OnOk result (scope.new.next ≡ scope.old.next + 1 + declared_counts block.now) }
 {
     let mut inner = scope.within(alloc)?;
@@ -123,9 +130,11 @@ pub(crate) fn put_statements<'a>(
 ) -> Result<(), OutOfMemory>
     requires words { out.old.end + statements_words block.now ≤ 50000 }
     requires slots { scope.old.next + declared_counts block.now ≤ 32 }
-    ensures code { OnOk result (out.new.instrs.items ≡ out.old.instrs.items ++ (statements_code checked.now block.now scope.old).code out.old.end) }
+    ensures code { OnOk result (out.new.instrs.items ≡ out.old.instrs.items
+        ++ (statements_code checked.now block.now scope.old).code out.old.end) }
     ensures end { OnOk result (out.new.end ≡ out.old.end + statements_words block.now) }
-    ensures scope { OnOk result (scope.new ≡ (statements_code checked.now block.now scope.old).behind) }
+    ensures scope { OnOk result (scope.new ≡ (statements_code checked.now block.now
+        scope.old).behind) }
     ensures slots { OnOk result (scope.new.next ≡ scope.old.next + declared_counts block.now) }
 {
     for statement in block {
@@ -144,7 +153,8 @@ fn put_declaration<'a>(
 ) -> Result<(), OutOfMemory>
     requires words { out.old.end + expression_words value.now + 2 ≤ 50000 }
     requires slots { scope.old.next < 32 }
-    ensures code { OnOk result (out.new.instrs.items ≡ out.old.instrs.items ++ (expression_code checked.now value.now scope.old.locals ++ SetL scope.old.next ∷ [])) }
+    ensures code { OnOk result (out.new.instrs.items ≡ out.old.instrs.items
+        ++ (expression_code checked.now value.now scope.old.locals ++ SetL scope.old.next ∷ [])) }
     ensures end { OnOk result (out.new.end ≡ out.old.end + expression_words value.now + 2) }
     ensures scope { OnOk result (scope.new ≡ declare name.now.text scope.old) }
 {
@@ -162,8 +172,11 @@ fn put_assignment(
     out: &mut Segment,
 ) -> Result<(), OutOfMemory>
     requires { out.old.end + access_words place.now + expression_words value.now ≤ 50000 }
-    ensures code { OnOk result (out.new.instrs.items ≡ out.old.instrs.items ++ storing checked.now (place_code checked.now place.now scope.now.locals) (expression_code checked.now value.now scope.now.locals)) }
-    ensures end { OnOk result (out.new.end ≡ out.old.end + access_words place.now + expression_words value.now) }
+    ensures code { OnOk result (out.new.instrs.items ≡ out.old.instrs.items
+        ++ storing checked.now (place_code checked.now place.now scope.now.locals)
+        (expression_code checked.now value.now scope.now.locals)) }
+    ensures end { OnOk result (out.new.end ≡ out.old.end + access_words place.now
+        + expression_words value.now) }
 {
     match place {
         Place::Plain(name) => {
@@ -190,7 +203,9 @@ fn put_give(
     out: &mut Segment,
 ) -> Result<(), OutOfMemory>
     requires { out.old.end + expressions_words values.now + 2 ≤ 50000 }
-    ensures code { OnOk result (out.new.instrs.items ≡ out.old.instrs.items ++ (expressions_code checked.now values.now scope.now.locals ++ Give (length values.now) ∷ [])) }
+    ensures code { OnOk result (out.new.instrs.items ≡ out.old.instrs.items
+        ++ (expressions_code checked.now values.now scope.now.locals
+        ++ Give (length values.now) ∷ [])) }
     ensures end { OnOk result (out.new.end ≡ out.old.end + expressions_words values.now + 2) }
 {
     put_expressions(checked, scope, values, out)?;

@@ -39,7 +39,8 @@ log_changes s l = changes_below (variable_changes s l) (length_in s l)
 -- a pair of the transaction log does where the task log has no newer one
 abbrev pub older_changes : State → ℕ → List Change
 older_changes s i =
-    if is_some (index_in s task_log (number_in s tx_log i)) then [] else variable_changes s tx_log i
+    if is_some (index_in s task_log (number_in s tx_log i)) then []
+    else variable_changes s tx_log i
 
 -- once the transaction's log and flags are gone, it is closed, and the place moved
 abbrev pub closing_changes : State → List Change

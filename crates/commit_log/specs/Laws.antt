@@ -28,7 +28,8 @@ CommitsKeep = (s : State) (change : Change) → IsCommitWrite s change → Keeps
 -- an open unit is the same while a task goes into it, and while an event is committed under it
 abbrev pub CommitsKeepTheUnit : Type 0
 CommitsKeepTheUnit =
-    (s : State) (change : Change) → IsCommitWrite s change → mark s ≢ 2 → KeepsUnit s (put s change)
+    (s : State) (change : Change) → IsCommitWrite s change → mark s ≢ 2 →
+    KeepsUnit s (put s change)
 
 -- each write leaves fewer
 abbrev pub CommitsGoOn : Type 0

@@ -1,5 +1,5 @@
-//! Commits, write by write. Each call answers the next write from the image alone, and none of them
-//! changes what the image stands for.
+//! Commits, write by write. Each call answers the next write from the image alone, and none of
+//! them changes what the image stands for.
 #![tactic(auto)]
 
 mod event;

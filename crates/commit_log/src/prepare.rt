@@ -22,8 +22,8 @@ pub fn prepare_write(image: &Image, place: u16) -> Option<Write>
     )
 }
 
-/// The write of the position after the oldest entry, before its commit is marked. None exactly where
-/// it stands.
+/// The write of the position after the oldest entry, before its commit is marked. None exactly
+/// where it stands.
 pub fn prepare_event(image: &Image) -> Option<Write>
     requires range { InRange (state image.now) }
     requires held { 1 ≤ held_count (state image.now) }

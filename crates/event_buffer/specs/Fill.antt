@@ -1,4 +1,5 @@
--- How the next posting comes into the ring: its parts are written into the slot at the tail, and then it is accepted.
+-- How the next posting comes into the ring: its parts are written into the slot at the tail, and
+-- then it is accepted.
 use Rattle.std.specs.Prelude.{ℕ, zero, suc, ◌+◌, ◌==◌, ◌<◌, ◌≡◌, Bool, List, length, slice_get, take, Option, Some, None}
 use Rattle.nv_memory.specs.declared.log.Log.TheVariants as log
 use Rattle.nv_memory.specs.State.{Change, State, set_to}
@@ -19,7 +20,8 @@ abbrev pub word_change : (slot i : ℕ) → Option ℕ → Change
 word_change slot i (Some word) = set_to (message_seat slot i) word
 word_change slot i None = set_to (entry_log slot).length 0
 
--- the parts of a posting, counted from 0: its event, then each word of its message, then an empty log
+-- the parts of a posting, counted from 0: its event, then each word of its message, then an empty
+-- log
 abbrev pub fill_change : (slot event : ℕ) → (message : List ℕ) → (part : ℕ) → Change
 fill_change slot event message zero = set_to (event_seat slot) event
 fill_change slot event message (suc i) = word_change slot i (slice_get message i)
@@ -27,7 +29,8 @@ fill_change slot event message (suc i) = word_change slot i (slice_get message i
 -- the parts before this one stand in the slot
 pub record IsFilled (s : State) (slot event : ℕ) (message : List ℕ) (part : ℕ) : Type 0 where
   pub event_stands : 0 < part → s.at (event_seat slot) ≡ event
-  pub words : (i word : ℕ) → i + 1 < part → slice_get message i ≡ Some word → message_word s slot i ≡ word
+  pub words : (i word : ℕ) → i + 1 < part → slice_get message i ≡ Some word →
+      message_word s slot i ≡ word
   pub emptied : length message + 1 < part → log_length s (log.Entry slot) ≡ 0
 
 -- the posting stands in the slot, and its log has no word

@@ -15,11 +15,13 @@ pub record Fills (slot event : ℕ) (message : List ℕ) (part : ℕ) (s t : Sta
 
 abbrev pub PartsFillTheSlot : Type 0
 PartsFillTheSlot = (s : State) (slot event : ℕ) (message : List ℕ) (part : ℕ) → InRange s
-    → IsFilled s slot event message part → Fills slot event message part s (put s (fill_change slot event message part))
+    → IsFilled s slot event message part → Fills slot event message part s
+    (put s (fill_change slot event message part))
 
 -- before the first part nothing is said
 abbrev pub NoPartStandsAtFirst : Type 0
-NoPartStandsAtFirst = (s : State) (slot event : ℕ) (message : List ℕ) → IsFilled s slot event message 0
+NoPartStandsAtFirst = (s : State) (slot event : ℕ) (message : List ℕ) →
+    IsFilled s slot event message 0
 
 -- after the last part the posting stands
 abbrev pub AllPartsAreThePosting : Type 0
@@ -28,8 +30,10 @@ AllPartsAreThePosting = (s : State) (slot event : ℕ) (message : List ℕ) → 
 
 -- a write to a log of an entry leaves all beside the entry
 abbrev pub LogsAreInTheirEntries : Type 0
-LogsAreInTheirEntries = (slot : ℕ) (s t : State) → KeepsBeside (log.Entry slot) s t → KeepsBesideEntry slot s t
+LogsAreInTheirEntries = (slot : ℕ) (s t : State) → KeepsBeside (log.Entry slot) s t →
+    KeepsBesideEntry slot s t
 
 -- where there is room, no write to the entry at the tail touches what the image stands for
 abbrev pub TailEntryIsFree : Type 0
-TailEntryIsFree = (s t : State) → InRange s → is_full s ≡ false → KeepsBesideEntry (tail_slot s) s t → KeepsHeld s t
+TailEntryIsFree = (s t : State) → InRange s → is_full s ≡ false →
+    KeepsBesideEntry (tail_slot s) s t → KeepsHeld s t

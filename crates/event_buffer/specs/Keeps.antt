@@ -28,7 +28,8 @@ pub record KeepsBesideEntry (slot : ℕ) (s t : State) : Type 0 where
   pub attempt_flags : (word : ℕ) → t.at (attempt_flag_seat word) ≡ s.at (attempt_flag_seat word)
   pub tx_flags : (word : ℕ) → t.at (tx_flag_seat word) ≡ s.at (tx_flag_seat word)
   pub entries : (other : ℕ) → other ≢ slot → entry_at t other ≡ entry_at s other
-  pub logs : (other : Log) → other ≢ log.Entry slot → (word : ℕ) → log_value t other word ≡ log_value s other word
+  pub logs : (other : Log) → other ≢ log.Entry slot → (word : ℕ) →
+      log_value t other word ≡ log_value s other word
 
 -- the held entries with their slots and logs, and the rest of what the image stands for
 pub record KeepsHeld (s t : State) : Type 0 where

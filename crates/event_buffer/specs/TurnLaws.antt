@@ -1,5 +1,6 @@
--- What the writes that move the ring on make of the image: one accepts the posting at the tail, one says which position follows
--- the head, the marker takes the posting at the head into the variables, and one moves the head on.
+-- What the writes that move the ring on make of the image: one accepts the posting at the tail,
+-- one says which position follows the head, the marker takes the posting at the head into the
+-- variables, and one moves the head on.
 use Rattle.std.specs.Prelude.{ℕ, ◌<◌, ◌≡◌, ◌∷◌, [], ◌++◌, false, Some}
 use Rattle.std.specs.Option.{unwrap_or}
 use Rattle.nv_memory.specs.declared.log.Log.TheVariants as log
@@ -25,7 +26,8 @@ pub record Accepts (s t : State) : Type 0 where
   pub sound : KeepsSound s t
 
 abbrev pub AcceptsAddTheNewest : Type 0
-AcceptsAddTheNewest = (s : State) → InRange s → is_full s ≡ false → Accepts s (put s (accept_change s))
+AcceptsAddTheNewest = (s : State) → InRange s → is_full s ≡ false →
+    Accepts s (put s (accept_change s))
 
 -- the position after the head is prepared for an event's commit
 abbrev pub prepare_change : State → Change
@@ -51,7 +53,8 @@ pub record Takes (s t : State) : Type 0 where
   pub held : held_entries s ≡ entry_at s (head_slot s) ∷ held_entries t
   pub slots : held_slots s ≡ head_slot s ∷ held_slots t
   pub words : (word : ℕ)
-      → committed_word t word ≡ unwrap_or (log_value s (log.Entry (head_slot s)) word) (committed_word s word)
+      → committed_word t word ≡ unwrap_or (log_value s (log.Entry (head_slot s)) word)
+      (committed_word s word)
   pub place : place_of t ≡ place_of s
   pub logs : KeepsLogs s t
   pub sound : KeepsSound s t
@@ -66,7 +69,8 @@ free_change s = set_to head_seat (head_next s)
 
 -- each value of the log of the entry at the head stands in its variable
 abbrev pub IsHeadApplied : State → Type 0
-IsHeadApplied s = (word value : ℕ) → log_value s (log.Entry (head_slot s)) word ≡ Some value → variable s word ≡ value
+IsHeadApplied s = (word value : ℕ) → log_value s (log.Entry (head_slot s)) word ≡ Some value →
+    variable s word ≡ value
 
 -- the marker has taken the entry at the head before
 pub record Frees (s t : State) : Type 0 where

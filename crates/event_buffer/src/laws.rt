@@ -1,4 +1,5 @@
-//! What follows from the definitions: each function's contract is a law, and its body does nothing.
+//! What follows from the definitions: each function's contract is a law, and its body does
+//! nothing.
 
 ghost use Rattle.event_buffer.specs.FillLaws.{AllPartsAreThePosting, LogsAreInTheirEntries, NoPartStandsAtFirst, PartsFillTheSlot, TailEntryIsFree};
 ghost use Rattle.event_buffer.specs.Held.{HeldAreCounted};
@@ -17,19 +18,21 @@ pub fn parts_fill_the_slot()
     ensures all { AllPartsAreThePosting }
 {}
 
-/// Where there is room, no write to the entry at the tail, its log too, touches what the image stands for.
+/// Where there is room, no write to the entry at the tail, its log too, touches what the image
+/// stands for.
 pub fn the_tail_entry_is_free()
     ensures logs { LogsAreInTheirEntries }
     ensures free { TailEntryIsFree }
 {}
 
-/// The write that accepts adds the posting at the tail to the held ones, at the end, and leaves all else.
+/// The write that accepts adds the posting at the tail to the held ones, at the end, and leaves
+/// all else.
 pub fn accepts_add_the_newest()
     ensures { AcceptsAddTheNewest }
 {}
 
-/// The marker of an event's commit takes the oldest posting. The write that prepares it and the one that moves the head on
-/// leave what is held.
+/// The marker of an event's commit takes the oldest posting. The write that prepares it and the
+/// one that moves the head on leave what is held.
 pub fn commits_take_the_oldest()
     ensures prepare { PreparesLeaveTheHeld }
     ensures mark { MarksTakeTheOldest }

@@ -1,4 +1,5 @@
-//! The ring of postings: what is held, how a posting comes in, and how an event's commit takes the oldest one.
+//! The ring of postings: what is held, how a posting comes in, and how an event's commit takes the
+//! oldest one.
 #![tactic(auto)]
 
 pub mod laws;

@@ -58,7 +58,8 @@ fn slot_behind(img: &Image, i: u16) -> u16
     layout.slot((oldest(img) + i) % layout.positions())
 }
 
-// The position of the oldest held posting. An event's commit takes the one at the head by its mark.
+// The position of the oldest held posting. An event's commit takes the one at the head by its
+// mark.
 fn oldest(img: &Image) -> u16
     requires { InRange (state img.now) }
     ensures position { result ≡ oldest (state img.now) }

@@ -8,8 +8,8 @@ ghost use Rattle.event_buffer.specs.TurnLaws.{accept_change, free_change};
 use coati_word::Message;
 use nv_memory::{Image, Log, Write, header};
 
-/// The write of a part, counted from 0, of the next posting, into the slot at the tail: its event, then each word of its
-/// message, then an empty log.
+/// The write of a part, counted from 0, of the next posting, into the slot at the tail: its event,
+/// then each word of its message, then an empty log.
 pub fn fill_write(img: &Image, event: u16, message: &Message, i: u16) -> Write
     requires range { InRange (state img.now) }
     requires part { i < length message.now + 2 }

@@ -1,5 +1,5 @@
--- A script's postings in a history: they are raised in the script's order, each as soon as its time
--- has come and the posting before it is answered.
+-- A script's postings in a history: they are raised in the script's order, each as soon as its
+-- time has come and the posting before it is answered.
 use Rattle.std.specs.Prelude.{ℕ, ◌<◌, ◌≡◌, max, List, [], ◌∷◌}
 use Rattle.serial_log.specs.declared.mark.Mark.{Mark}
 use Rattle.serial_log.specs.declared.mark.MarkKind.{MarkKind}
@@ -32,7 +32,8 @@ all_left postings = record { left = postings; answered = 0 }
 abbrev pub turns_of : List Posting → List Mark → Turns
 turns_of postings marks = walk after_mark (all_left postings) marks
 
--- the posting is the first that is left, raised at the greater of its time and the answer before it
+-- the posting is the first that is left, raised at the greater of its time and the answer before
+-- it
 pub record IsFirstLeft (t : Turns) (posted : Raised) : Type 0 where
   pub first : Posting
   pub more : List Posting

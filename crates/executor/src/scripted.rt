@@ -7,8 +7,8 @@ use coati_board::Board;
 use serial_log::{End, Posting};
 
 /// Runs the board's script to its end, and closes the board. Before each step the first posting
-/// that is left is raised, where its time has come. The run ends where nothing is left to do and no
-/// posting is left, or at the limit. It takes no memory.
+/// that is left is raised, where its time has come. The run ends where nothing is left to do and
+/// no posting is left, or at the limit. It takes no memory.
 pub fn run_scripted(board: &mut Board) -> End
     requires fresh { CanRun board.old }
     ensures run { IsSameRun board.old board.new }

@@ -7,7 +7,8 @@ use Rattle.nv_memory.specs.InRange.{ArePlacesInRange, InRange, IsClosed}
 use Rattle.nv_memory.specs.Ring.{held_entries}
 use Rattle.nv_memory.specs.StandsFor.{committed_word, place_of}
 
--- it is in range, whatever the number of tasks, and stands for the opening values and the first task, with nothing held
+-- it is in range, whatever the number of tasks, and stands for the opening values and the first
+-- task, with nothing held
 pub record IsBlankSound (opening : List ℕ) (k : ℕ) (mode : Mode) : Type 0 where
   pub range : InRange (blank opening k mode)
   pub places : (tasks : ℕ) → 0 < tasks → ArePlacesInRange tasks (blank opening k mode)
@@ -17,4 +18,5 @@ pub record IsBlankSound (opening : List ℕ) (k : ℕ) (mode : Mode) : Type 0 wh
   pub held : held_entries (blank opening k mode) ≡ []
 
 abbrev pub BlankImagesAreSound : Type 0
-BlankImagesAreSound = (opening : List ℕ) (k : ℕ) (mode : Mode) → IsSized (length opening) k → IsBlankSound opening k mode
+BlankImagesAreSound = (opening : List ℕ) (k : ℕ) (mode : Mode) → IsSized (length opening) k →
+    IsBlankSound opening k mode

@@ -25,7 +25,8 @@ pub record KeepsBeside (log : Log) (s t : State) : Type 0 where
   pub attempt_flags : (word : ℕ) → t.at (attempt_flag_seat word) ≡ s.at (attempt_flag_seat word)
   pub tx_flags : (word : ℕ) → t.at (tx_flag_seat word) ≡ s.at (tx_flag_seat word)
   pub entries : (slot : ℕ) → entry_at t slot ≡ entry_at s slot
-  pub logs : (other : Log) → other ≢ log → (word : ℕ) → log_value t other word ≡ log_value s other word
+  pub logs : (other : Log) → other ≢ log → (word : ℕ) →
+      log_value t other word ≡ log_value s other word
 
 -- what the image stands for
 pub record StandsForTheSame (s t : State) : Type 0 where

@@ -8,7 +8,8 @@ use Rattle.nv_memory.specs.Words.{attempt_flag_seat, current, doomed, first, hea
 use Rattle.nv_memory.specs.Logs.{HasLog, IsEmpty, IsLog, seats_of}
 use Rattle.nv_memory.specs.Ring.{is_taking, position_after, positions, positions_between}
 
--- from the head to the tail there are as many entries as are held, or one more while the head's is taken
+-- from the head to the tail there are as many entries as are held, or one more while the head's is
+-- taken
 pub record IsRing (s : State) : Type 0 where
   pub head_low : head s < positions s.k
   pub next_low : head_next s < positions s.k

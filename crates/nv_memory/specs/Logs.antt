@@ -1,4 +1,5 @@
--- A log is its first pairs of a word number and a value. What stands above speaks of it by look-up.
+-- A log is its first pairs of a word number and a value. What stands above speaks of it by
+-- look-up.
 use Rattle.std.specs.Prelude.{ℕ, zero, suc, ◌==◌, ◌<◌, ◌≤◌, ◌≡◌, ◌≢◌, Option, Some, None, if◌then◌else◌}
 use Rattle.nv_memory.specs.declared.log.Log.{Log}
 use Rattle.nv_memory.specs.declared.log.Log.TheVariants as log
@@ -12,7 +13,11 @@ pub record LogSeats : Type 0 where
   pub value : ℕ → Seat
 
 abbrev pub task_log : LogSeats
-task_log = record { length = Seat.Header 4; number = λ i. Seat.Part 1 i; value = λ i. Seat.Part 2 i }
+task_log = record {
+  length = Seat.Header 4;
+  number = λ i. Seat.Part 1 i;
+  value = λ i. Seat.Part 2 i;
+}
 
 abbrev pub tx_log : LogSeats
 tx_log = record { length = Seat.Header 5; number = λ i. Seat.Part 3 i; value = λ i. Seat.Part 4 i }
@@ -43,7 +48,8 @@ index_of numbers (suc i) word = if numbers i == word then Some i else index_of n
 -- the value of a word among the first pairs
 abbrev pub look_up : (ℕ → ℕ) → (ℕ → ℕ) → ℕ → ℕ → Option ℕ
 look_up numbers values zero word = None
-look_up numbers values (suc i) word = if numbers i == word then Some (values i) else look_up numbers values i word
+look_up numbers values (suc i) word = if numbers i == word then Some (values i)
+    else look_up numbers values i word
 
 abbrev pub length_in : State → LogSeats → ℕ
 length_in s l = s.at l.length

@@ -1,4 +1,5 @@
--- The ring of postings. Positions count modulo twice the number of slots, so that a full ring isn't an empty one.
+-- The ring of postings. Positions count modulo twice the number of slots, so that a full ring
+-- isn't an empty one.
 use Rattle.std.specs.Prelude.{ℕ, zero, suc, ◌+◌, ◌-◌, ◌*◌, ◌%◌, ◌==◌, List, [], ◌∷◌, map, Bool, not, ◌&&◌, if◌then◌else◌}
 use Rattle.nv_memory.specs.Seats.{Seat}
 use Rattle.nv_memory.specs.State.{State}
@@ -22,7 +23,8 @@ positions_between k from to = (to + positions k - from) % positions k
 -- the slots of so many positions from one on
 abbrev pub slots_from : ℕ → ℕ → ℕ → List ℕ
 slots_from k position zero = []
-slots_from k position (suc count) = slot_of k position ∷ slots_from k (position_after k position) count
+slots_from k position (suc count) = slot_of k position
+    ∷ slots_from k (position_after k position) count
 
 -- an event's commit is under way and the entry at the head is not yet behind it
 abbrev pub is_taking : State → Bool
@@ -56,7 +58,8 @@ message_word s slot i = s.at (message_seat slot i)
 abbrev pub entry_at : State → ℕ → Entry
 entry_at s slot = record {
   event = s.at (event_seat slot);
-  message = message_word s slot 0 ∷ message_word s slot 1 ∷ message_word s slot 2 ∷ message_word s slot 3 ∷ [];
+  message = message_word s slot 0 ∷ message_word s slot 1 ∷ message_word s slot 2
+      ∷ message_word s slot 3 ∷ [];
 }
 
 -- the postings that are accepted and in no commit's record yet, the oldest first

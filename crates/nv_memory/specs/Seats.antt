@@ -1,12 +1,15 @@
--- Where the words of the image lie. Each word has a seat: one of twelve header words, a word of one of seven parts that
--- have a word for each variable word, or a word of one of the three parts of an entry.
+-- Where the words of the image lie. Each word has a seat: one of twelve header words, a word of
+-- one of seven parts that have a word for each variable word, or a word of one of the three parts
+-- of an entry.
 use Rattle.std.specs.Prelude.{ℕ, ◌+◌, ◌*◌, ◌==◌, ◌≤◌, ◌≡◌, List, length, slice_set, Bool, if◌then◌else◌, nat_lt, ◌&&◌}
 use Rattle.nv_memory.specs.declared.write.Write.{Write}
 
 pub data Seat : Type 0 where
-  -- mark, current place, next place, open, lengths of the two logs, head, next head, tail, doom, first task, mode
+  -- mark, current place, next place, open, lengths of the two logs, head, next head, tail, doom,
+  -- first task, mode
   Header : ℕ → Seat
-  -- variables, word numbers and values of the task log, those of the transaction log, attempt flags, transaction flags
+  -- variables, word numbers and values of the task log, those of the transaction log, attempt
+  -- flags, transaction flags
   Part : (part word : ℕ) → Seat
   -- event, length of the log and message, its log's word numbers, its log's values
   Entry : (slot part at : ℕ) → Seat
@@ -40,7 +43,8 @@ size n k = 12 + 7 * n + (k + 1) * width n
 abbrev pub is_seat : ℕ → ℕ → Seat → Bool
 is_seat n k (Seat.Header i) = nat_lt i 12
 is_seat n k (Seat.Part part word) = nat_lt part 7 && nat_lt word n
-is_seat n k (Seat.Entry slot part at) = nat_lt slot (k + 1) && (nat_lt part 3 && nat_lt at (part_size n part))
+is_seat n k (Seat.Entry slot part at) = nat_lt slot (k + 1)
+    && (nat_lt part 3 && nat_lt at (part_size n part))
 
 -- the sizes that an image may have
 pub record IsSized (n k : ℕ) : Type 0 where

@@ -1,5 +1,5 @@
--- What an image stands for, of whatever is written while a commit is made: the committed words, the place of the program
--- and, in the chapter on the ring, the held entries.
+-- What an image stands for, of whatever is written while a commit is made: the committed words,
+-- the place of the program and, in the chapter on the ring, the held entries.
 use Rattle.std.specs.Prelude.{ℕ, ◌==◌, ◌≡◌, Option, Some, None, if◌then◌else◌}
 use Rattle.std.specs.Option.{unwrap_or}
 use Rattle.nv_memory.specs.declared.log.Log.TheVariants as log

@@ -19,7 +19,8 @@ state m = record { n = m.n; k = m.k; at = cells m }
 abbrev pub is_same : Seat → Seat → Bool
 is_same (Seat.Header i) (Seat.Header j) = i == j
 is_same (Seat.Part p i) (Seat.Part q j) = if p == q then i == j else false
-is_same (Seat.Entry s p i) (Seat.Entry t q j) = if p == q then (if i == j then s == t else false) else false
+is_same (Seat.Entry s p i) (Seat.Entry t q j) = if p == q then (if i == j then s == t else false)
+    else false
 is_same _ _ = false
 
 -- a value to stand at a seat
@@ -32,7 +33,10 @@ set_to seat value = record { seat = seat; value = value }
 
 -- the state with one change made
 abbrev pub put : State → Change → State
-put s change = record s { at = λ other. if is_same other change.seat then change.value else s.at other }
+put s change = record s {
+  at = λ other. if is_same other change.seat then change.value
+      else s.at other;
+}
 
 -- it stands already
 abbrev pub is_done : State → Change → Bool
@@ -41,7 +45,8 @@ is_done s change = s.at change.seat == change.value
 -- the first of several changes that doesn't stand yet
 abbrev pub first_undone : State → List Change → Option Change
 first_undone s [] = None
-first_undone s (change ∷ changes) = if is_done s change then first_undone s changes else Some change
+first_undone s (change ∷ changes) = if is_done s change then first_undone s changes
+    else Some change
 
 -- the write that makes a change
 abbrev pub write_of : ℕ → Change → Write
@@ -58,4 +63,5 @@ pub record PutsOneWord (m : Memory) (change : Change) (write : Write) : Type 0 w
   pub state : state (written m write) ≡ put (state m) change
 
 abbrev pub WritesPutOneWord : Type 0
-WritesPutOneWord = (m : Memory) (change : Change) (write : Write) → IsMemory m → Writes m change write → PutsOneWord m change write
+WritesPutOneWord = (m : Memory) (change : Change) (write : Write) → IsMemory m →
+    Writes m change write → PutsOneWord m change write

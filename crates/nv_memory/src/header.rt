@@ -1,6 +1,7 @@
 //! The addresses of the header's words.
 
-/// The marker: 0 where no commit is under way, 1 of a task into its transaction, 2 of a unit, 3 of an event.
+/// The marker: 0 where no commit is under way, 1 of a task into its transaction, 2 of a unit, 3 of
+/// an event.
 pub const MARK: u16 = 0;
 
 /// The task to run, or `HALT`.

@@ -10,8 +10,8 @@ use coati_word::{Mode, OutOfMemory};
 use std::alloc::{AllocError, Global};
 use std::marker::Model;
 
-/// Nonvolatile memory. A contract sees the list of its words, and how many are variables and entries; what stands in them is
-/// its state.
+/// Nonvolatile memory. A contract sees the list of its words, and how many are variables and
+/// entries; what stands in them is its state.
 #[derive(Drop)]
 pub struct Image {
     layout: Layout,
@@ -25,7 +25,11 @@ impl Model for Image {
 
     ghost view = { λ i. record { n = i.layout.n; k = i.layout.k; words = i.words.items } };
 
-    ghost invariant = { λ i. IsMemory (record { n = i.layout.n; k = i.layout.k; words = i.words.items }) };
+    ghost invariant = { λ i. IsMemory (record {
+      n = i.layout.n;
+      k = i.layout.k;
+      words = i.words.items;
+    }) };
 }
 
 impl Image {

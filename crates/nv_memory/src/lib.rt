@@ -1,4 +1,5 @@
-//! Nonvolatile memory: one list of words that outlives a cut of power, of which a step writes one at most.
+//! Nonvolatile memory: one list of words that outlives a cut of power, of which a step writes one
+//! at most.
 #![tactic(auto)]
 
 pub mod header;

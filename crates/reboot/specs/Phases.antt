@@ -5,7 +5,8 @@ use Rattle.nv_memory.specs.Words.{doomed, mark}
 use Rattle.reboot.specs.declared.phases.Phase.{Phase}
 use Rattle.reboot.specs.declared.phases.Phase.TheVariants as phase
 
--- a commit that is under way comes first, then the undo of an aborted transaction; each state has one phase
+-- a commit that is under way comes first, then the undo of an aborted transaction; each state has
+-- one phase
 abbrev pub IsAfterCut : State → Phase → Type 0
 IsAfterCut s phase.Apply = mark s ≢ 0
 IsAfterCut s phase.Undo = (mark s ≡ 0) × (doomed s ≡ 1)

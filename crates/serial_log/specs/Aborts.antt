@@ -33,12 +33,14 @@ pub record IsLeastClash (event tasks : List Access) (word : ℕ) : Type 0 where
   pub clash : IsClash event tasks word
   pub least : (other : ℕ) → IsClash event tasks other → word ≤ other
 
--- The word is the least on which a posting's event clashes with the first `count` tasks of the unit at the place. That these
--- tasks run says that the unit isn't whole earlier.
-pub record IsClashWord (program : Program) (stand : Stand) (count : ℕ) (held : Held) (word : ℕ) : Type 0 where
+-- The word is the least on which a posting's event clashes with the first `count` tasks of the
+-- unit at the place. That these tasks run says that the unit isn't whole earlier.
+pub record IsClashWord (program : Program) (stand : Stand) (count : ℕ) (held : Held) (word : ℕ)
+    : Type 0 where
   pub reached : Reached
   pub tasks : tasks_effect program stand.place stand.store count ≡ Some reached
-  pub least : IsLeastClash (event_effect program held.event held.argument stand.store) reached.done word
+  pub least : IsLeastClash (event_effect program held.event held.argument stand.store)
+      reached.done word
 
 -- A unit is given up, in mode buffi alone, for the event that is due.
 pub record IsAbortLegal (terms : Terms) (s : Standing) (aborted : AbortOf) : Type 0 where

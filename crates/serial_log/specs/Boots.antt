@@ -6,7 +6,8 @@ use Rattle.serial_log.specs.declared.mark.MarkKind.{MarkKind}
 use Rattle.serial_log.specs.declared.mark.MarkKind.TheVariants.{Boot}
 use Rattle.serial_log.specs.Standing.{Standing, EachMark}
 
--- Boots are counted from 1. No power period is empty, so each boot is later than the one before, and the first than 0.
+-- Boots are counted from 1. No power period is empty, so each boot is later than the one before,
+-- and the first than 0.
 pub record IsBootLegal (s : Standing) (at number : ℕ) : Type 0 where
   pub counted : number ≡ s.boots + 1
   pub later : s.last_boot < at

@@ -1,4 +1,5 @@
--- A history: what happened, in its order, and what the committed units read. The readings of all records stand in one list.
+-- A history: what happened, in its order, and what the committed units read. The readings of all
+-- records stand in one list.
 use Rattle.std.specs.Prelude.{ℕ, ◌+◌, ◌-◌, ◌^◌, ◌<◌, ◌≤◌, ◌≡◌, List, [], ◌∷◌, ◌++◌, length, take, drop}
 use Rattle.std.specs.List.{Any}
 use Rattle.coati_word.specs.declared.reading.Reading.{Reading}
@@ -39,11 +40,17 @@ HasRecord past committed = Any (λ mark. mark.kind ≡ Commit committed) past.ma
 
 -- the history with one mark more
 abbrev pub with_mark : Past → Mark → Past
-with_mark past mark = record past { marks = past.marks ++ mark ∷ []; mark_room = past.mark_room - 1 }
+with_mark past mark = record past {
+  marks = past.marks ++ mark ∷ [];
+  mark_room = past.mark_room - 1;
+}
 
 -- the history with one reading more, which is the next record's
 abbrev pub with_reading : Past → Reading → Past
-with_reading past reading = record past { readings = past.readings ++ reading ∷ []; reading_room = past.reading_room - 1 }
+with_reading past reading = record past {
+  readings = past.readings ++ reading ∷ [];
+  reading_room = past.reading_room - 1;
+}
 
 -- the room has not become less
 pub record IsRoomier (old new : Past) : Type 0 where

@@ -1,5 +1,6 @@
--- Which histories are legal. Each fact is one about a mark where those before it lead, so a printed text can be judged line
--- by line. Not told by marks alone, and so not here: the script, the clock, and how soon a run goes on.
+-- Which histories are legal. Each fact is one about a mark where those before it lead, so a
+-- printed text can be judged line by line. Not told by marks alone, and so not here: the script,
+-- the clock, and how soon a run goes on.
 use Rattle.std.specs.Prelude.{◌≡◌, List, []}
 use Rattle.coati_word.specs.declared.reading.Reading.{Reading}
 use Rattle.task_syntax.specs.declared.program.Program.{Program}
@@ -19,7 +20,11 @@ use Rattle.serial_log.specs.Boots.{KeepsBoots}
 
 -- a commit is the next record of the serial run
 abbrev pub KeepsSerial : Program → List Reading → Standing → MarkKind → Type 0
-KeepsSerial program all s (Commit committed) = IsNext program s.rest s.run (record { committed = committed; reads = readings_in all committed })
+KeepsSerial program all s (Commit committed) =
+    IsNext program s.rest s.run (record {
+      committed = committed;
+      reads = readings_in all committed;
+    })
 KeepsSerial program all s _ = Unit {0}
 
 -- nothing is left to do
@@ -36,7 +41,8 @@ KeepsEnd s (kind.End end) = IsEndLegal s end
 KeepsEnd s _ = Unit {0}
 
 -- one mark is legal where those before it lead
-pub record IsLegalMark (terms : Terms) (all : List Reading) (s : Standing) (mark : Mark) : Type 0 where
+pub record IsLegalMark (terms : Terms) (all : List Reading) (s : Standing) (mark : Mark)
+    : Type 0 where
   pub serial : KeepsSerial terms.program all s mark.kind
   pub postings : KeepsPostings terms s mark
   pub aborts : KeepsAborts terms s mark.kind

@@ -1,5 +1,5 @@
--- Read from top to bottom: what a history is, what its marks tell, the serial run, one reading of the marks from the left,
--- what is legal, and then what the script and the clock show.
+-- Read from top to bottom: what a history is, what its marks tell, the serial run, one reading of
+-- the marks from the left, what is legal, and then what the script and the clock show.
 pub mod History
 pub mod Marks
 pub mod SerialRun

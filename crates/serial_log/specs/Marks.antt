@@ -20,7 +20,10 @@ pub record Entry : Type 0 where
   pub reads : List Reading
 
 abbrev pub entries_by : MarkKind → List Reading → List Entry
-entries_by (Commit committed) all = record { committed = committed; reads = readings_in all committed } ∷ []
+entries_by (Commit committed) all = record {
+  committed = committed;
+  reads = readings_in all committed;
+} ∷ []
 entries_by _ all = []
 
 -- the records with their readings
@@ -36,7 +39,11 @@ abbrev pub raised_postings : List Mark → List Raised
 raised_postings marks = flat_map (λ mark. raised_by mark.kind) marks
 
 abbrev pub accepted_as : Raised → Answer → List Held
-accepted_as posted (Accepted number) = record { number = number; event = posted.event; argument = posted.argument } ∷ []
+accepted_as posted (Accepted number) = record {
+  number = number;
+  event = posted.event;
+  argument = posted.argument;
+} ∷ []
 accepted_as posted _ = []
 
 abbrev pub accepted_by : MarkKind → List Held
@@ -65,7 +72,8 @@ is_unrecorded recorded held = not (list_any (λ number. number == held.number) r
 
 -- the accepted postings that are in no record
 abbrev pub unrecorded_postings : List Mark → List Held
-unrecorded_postings marks = filter (is_unrecorded (recorded_postings marks)) (accepted_postings marks)
+unrecorded_postings marks = filter (is_unrecorded (recorded_postings marks))
+    (accepted_postings marks)
 
 abbrev pub boot_times_by : ℕ → MarkKind → List ℕ
 boot_times_by at (Boot number) = at ∷ []

@@ -1,4 +1,5 @@
--- Which postings are legal: how each is answered, that events are served in order, and that times don't fall.
+-- Which postings are legal: how each is answered, that events are served in order, and that times
+-- don't fall.
 use Rattle.std.specs.Prelude.{ℕ, ◌+◌, ◌≡◌, ◌<◌, ◌≤◌, List, [], ◌∷◌, length, Option, Some, None}
 use Rattle.coati_word.specs.declared.mode.Mode.{Mode}
 use Rattle.task_check.specs.Numbers.{buffer_size}

@@ -1,4 +1,5 @@
--- Which printed texts are serial and legal. A line shows a mark, but neither a Done mark nor the time of a commit or an abort.
+-- Which printed texts are serial and legal. A line shows a mark, but neither a Done mark nor the
+-- time of a commit or an abort.
 use Rattle.std.specs.Prelude.{ℕ, ◌≡◌, ◌<◌, List, [], ◌∷◌, flat_map, length, slice_index}
 use Rattle.coati_word.specs.declared.reading.Reading.{Reading}
 use Rattle.task_syntax.specs.Names.{word_count}
@@ -43,7 +44,8 @@ module _ (terms : Terms) (all : List Reading) where
   -- each line shows a mark that is legal where those before it lead
   abbrev pub AreLinesLegal : Standing → List Line → Type 0
   AreLinesLegal s [] = Unit {0}
-  AreLinesLegal s (first ∷ more) = IsLegalMark terms all s (mark_of first s) × AreLinesLegal (after_mark terms.program s (mark_of first s)) more
+  AreLinesLegal s (first ∷ more) = IsLegalMark terms all s (mark_of first s)
+      × AreLinesLegal (after_mark terms.program s (mark_of first s)) more
 
 -- what the lines of a printed text lead to
 abbrev pub told_by : Terms → Printed → Standing
@@ -59,6 +61,7 @@ pub record IsSerialAndLegal (terms : Terms) (bound : ℕ) (printed : Printed) : 
   pub mode : printed.mode ≡ terms.mode
   pub bounds : printed.bound ≡ bound
   pub lines : AreLinesLegal terms printed.readings (opening terms.program) printed.lines
-  pub end : IsLegalMark terms printed.readings (told_by terms printed) (mark_at (told_by terms printed).latest (End printed.end))
+  pub end : IsLegalMark terms printed.readings (told_by terms printed)
+      (mark_at (told_by terms printed).latest (End printed.end))
   pub values : AreValuesOf terms printed.values (told_by terms printed)
   pub held : printed.held ≡ length (told_by terms printed).rest

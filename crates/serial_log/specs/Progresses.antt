@@ -33,7 +33,8 @@ IsStepOfHandler step at _ = ⊥
 -- no boot comes between two times, and no machine step of a handler
 pub record IsLeftAlone (from to : ℕ) (marks : List Mark) : Type 0 where
   pub no_boot : (at : ℕ) → Contains (boot_times marks) at → from < at → at < to → ⊥
-  pub no_handler : (step : ℕ) → Any (λ mark. IsStepOfHandler step mark.at mark.kind) marks → from < step → step ≤ to → ⊥
+  pub no_handler : (step : ℕ) → Any (λ mark. IsStepOfHandler step mark.at mark.kind) marks →
+      from < step → step ≤ to → ⊥
 
 -- a mark behind one time and up to another that ends a task
 pub record ComesFurther (from to : ℕ) (mark : Mark) : Type 0 where
@@ -45,11 +46,13 @@ pub record ComesFurther (from to : ℕ) (mark : Mark) : Type 0 where
 abbrev pub standing_at : Program → List Mark → ℕ → Standing
 standing_at program marks time = standing_of program (filter (λ mark. nat_le mark.at time) marks)
 
--- Where a run is left alone for `bound` machine steps, a task ends in them, or nothing is left to do behind them.
+-- Where a run is left alone for `bound` machine steps, a task ends in them, or nothing is left to
+-- do behind them.
 abbrev pub EndsTasksInTime : Program → ℕ → ℕ → List Mark → Type 0
 EndsTasksInTime program bound clock marks =
     (time : ℕ) → time + bound ≤ clock → IsLeftAlone time (time + bound) marks →
-    Any (ComesFurther time (time + bound)) marks ⊎ IsDoneWith (standing_at program marks (time + bound))
+    Any (ComesFurther time (time + bound)) marks
+    ⊎ IsDoneWith (standing_at program marks (time + bound))
 
 -- the posting whose event has to come first, where a unit was given up for it
 abbrev pub awaited_by : Option ℕ → MarkKind → Option ℕ
@@ -67,11 +70,14 @@ IsServedFirst _ _ = Unit {0}
 abbrev pub awaited_of : List Mark → Option ℕ
 awaited_of marks = walk (λ awaited mark. awaited_by awaited mark.kind) None marks
 
--- Behind an abort, the first to be done, committed or given up is the event of its posting, which is committed.
+-- Behind an abort, the first to be done, committed or given up is the event of its posting, which
+-- is committed.
 abbrev pub ServesAborts : List Mark → Type 0
-ServesAborts marks = Each (λ awaited mark. awaited_by awaited mark.kind) (λ awaited mark. IsServedFirst awaited mark.kind) None marks
+ServesAborts marks = Each (λ awaited mark. awaited_by awaited mark.kind)
+    (λ awaited mark. IsServedFirst awaited mark.kind) None marks
 
--- what a history stands for so far, and how many postings were accepted when the last task or transaction was committed
+-- what a history stands for so far, and how many postings were accepted when the last task or
+-- transaction was committed
 pub record Settled : Type 0 where
   pub standing : Standing
   pub settled : ℕ
@@ -88,7 +94,10 @@ abbrev pub none_settled : Program → Settled
 none_settled program = record { standing = opening program; settled = 0 }
 
 abbrev pub settled_after : Program → Settled → Mark → Settled
-settled_after program s mark = record { standing = after_mark program s.standing mark; settled = settled_by mark.kind s }
+settled_after program s mark = record {
+  standing = after_mark program s.standing mark;
+  settled = settled_by mark.kind s;
+}
 
 abbrev pub settled_of : Program → List Mark → Settled
 settled_of program marks = walk (settled_after program) (none_settled program) marks
@@ -97,9 +106,11 @@ settled_of program marks = walk (settled_after program) (none_settled program) m
 abbrev pub ServesSettled : Settled → Mark → Type 0
 ServesSettled s mark = EndsTask mark.kind → All (λ held. s.settled < held.number) s.standing.rest
 
--- In `split`, a posting that was accepted before the commit of a task or transaction is served before the next task ends.
+-- In `split`, a posting that was accepted before the commit of a task or transaction is served
+-- before the next task ends.
 abbrev pub ServesBetweenUnits : Program → List Mark → Type 0
-ServesBetweenUnits program marks = Each (settled_after program) ServesSettled (none_settled program) marks
+ServesBetweenUnits program marks = Each (settled_after program) ServesSettled
+    (none_settled program) marks
 
 -- where a task ends, no posting is left
 abbrev pub ServesAll : Standing → Mark → Type 0
@@ -110,7 +121,8 @@ abbrev pub ServesAtOnce : Program → List Mark → Type 0
 ServesAtOnce program marks = EachMark program ServesAll marks
 
 -- a history that progresses, up to a clock
-pub record Progresses (program : Program) (mode : Mode) (bound clock : ℕ) (marks : List Mark) : Type 0 where
+pub record Progresses (program : Program) (mode : Mode) (bound clock : ℕ) (marks : List Mark)
+    : Type 0 where
   pub in_time : EndsTasksInTime program bound clock marks
   pub aborts : ServesAborts marks
   pub split : mode ≡ Split → ServesBetweenUnits program marks

@@ -1,4 +1,5 @@
--- The serial run of a program over its committed units: each runs whole and alone, on what those before it left.
+-- The serial run of a program over its committed units: each runs whole and alone, on what those
+-- before it left.
 use Rattle.std.specs.Prelude.{ℕ, ◌≡◌, ◌==◌, ◌<◌, List, [], ◌∷◌, length, slice_index, find, Option, Some, None}
 use Rattle.std.specs.Option.{option_map_or}
 use Rattle.task_syntax.specs.declared.program.Program.{Program}
@@ -28,26 +29,38 @@ posting_numbered number postings = find (λ held. held.number == number) posting
 
 -- where tasks lead
 abbrev pub behind_tasks : Stand → Reached → Stand
-behind_tasks stand reached = record { store = after reached.done stand.store; place = reached.place }
+behind_tasks stand reached = record {
+  store = after reached.done stand.store;
+  place = reached.place;
+}
 
 -- where an event leads: the place stays
 abbrev pub behind_event : Program → Stand → Held → Stand
-behind_event program stand held = record stand { store = after (event_effect program held.event held.argument stand.store) stand.store }
+behind_event program stand held = record stand {
+  store =
+      after (event_effect program held.event held.argument stand.store) stand.store;
+}
 
 -- where a record's unit leads, by the accepted postings; nowhere where it isn't there
 abbrev pub behind_unit : Program → List Held → Stand → Record → Committed → Stand
-behind_unit program accepted stand committed (Task task) = behind_tasks stand (task_effect program task stand.store)
-behind_unit program accepted stand committed (Transaction tx) = option_map_or (behind_tasks stand) (whole_effect program stand.place stand.store committed.tasks) stand
-behind_unit program accepted stand committed (Event event) = option_map_or (behind_event program stand) (posting_numbered committed.posting accepted) stand
+behind_unit program accepted stand committed (Task task) =
+    behind_tasks stand (task_effect program task stand.store)
+behind_unit program accepted stand committed (Transaction tx) =
+    option_map_or (behind_tasks stand) (whole_effect program stand.place stand.store
+    committed.tasks) stand
+behind_unit program accepted stand committed (Event event) =
+    option_map_or (behind_event program stand) (posting_numbered committed.posting accepted) stand
 
 -- where a record leads
 abbrev pub behind_record : Program → List Held → Stand → Record → Stand
-behind_record program accepted stand committed = behind_unit program accepted stand committed committed.unit
+behind_record program accepted stand committed =
+    behind_unit program accepted stand committed committed.unit
 
 -- where records lead, one after another
 abbrev pub behind_entries : Program → List Held → Stand → List Entry → Stand
 behind_entries program accepted stand [] = stand
-behind_entries program accepted stand (entry ∷ more) = behind_entries program accepted (behind_record program accepted stand entry.committed) more
+behind_entries program accepted stand (entry ∷ more) =
+    behind_entries program accepted (behind_record program accepted stand entry.committed) more
 
 -- the task is there, and in no transaction
 pub record IsLone (program : Program) (task : ℕ) : Type 0 where
@@ -63,7 +76,8 @@ pub record IsTaskNext (program : Program) (stand : Stand) (task : ℕ) (entry : 
   pub reads : entry.reads ≡ readings (task_effect program task stand.store).done
 
 -- the record is the transaction that begins at the place, whole, with what it reads there
-pub record IsTransactionNext (program : Program) (stand : Stand) (tx : ℕ) (entry : Entry) : Type 0 where
+pub record IsTransactionNext (program : Program) (stand : Stand) (tx : ℕ) (entry : Entry)
+    : Type 0 where
   pub place : first_task program tx ≡ Some stand.place
   pub no_posting : entry.committed.posting ≡ 0
   pub reached : Reached
@@ -71,7 +85,8 @@ pub record IsTransactionNext (program : Program) (stand : Stand) (tx : ℕ) (ent
   pub reads : entry.reads ≡ readings reached.done
 
 -- the record is the event of an accepted posting, with what it reads there
-pub record IsEventNext (program : Program) (accepted : List Held) (stand : Stand) (event : ℕ) (entry : Entry) : Type 0 where
+pub record IsEventNext (program : Program) (accepted : List Held) (stand : Stand) (event : ℕ)
+    (entry : Entry) : Type 0 where
   pub no_tasks : entry.committed.tasks ≡ 0
   pub held : Held
   pub posting : posting_numbered entry.committed.posting accepted ≡ Some held
@@ -81,7 +96,8 @@ pub record IsEventNext (program : Program) (accepted : List Held) (stand : Stand
 abbrev pub IsUnitNext : Program → List Held → Stand → Entry → Committed → Type 0
 IsUnitNext program accepted stand entry (Task task) = IsTaskNext program stand task entry
 IsUnitNext program accepted stand entry (Transaction tx) = IsTransactionNext program stand tx entry
-IsUnitNext program accepted stand entry (Event event) = IsEventNext program accepted stand event entry
+IsUnitNext program accepted stand entry (Event event) =
+    IsEventNext program accepted stand event entry
 
 -- the record is the next one
 abbrev pub IsNext : Program → List Held → Stand → Entry → Type 0
@@ -91,12 +107,15 @@ IsNext program accepted stand entry = IsUnitNext program accepted stand entry en
 abbrev pub AreSerial : Program → List Held → Stand → List Entry → Type 0
 AreSerial program accepted stand [] = Unit {0}
 AreSerial program accepted stand (entry ∷ more) =
-    IsNext program accepted stand entry × AreSerial program accepted (behind_record program accepted stand entry.committed) more
+    IsNext program accepted stand entry × AreSerial program accepted
+    (behind_record program accepted stand entry.committed) more
 
 -- the records of a history are a serial run of the program over its accepted postings
 abbrev pub SerialRun : Program → Past → Type 0
-SerialRun program past = AreSerial program (accepted_postings past.marks) (opening_stand program) (entries past.marks past.readings)
+SerialRun program past = AreSerial program (accepted_postings past.marks) (opening_stand program)
+    (entries past.marks past.readings)
 
 -- the store and the place to which it leads
 abbrev pub stand_of : Program → Past → Stand
-stand_of program past = behind_entries program (accepted_postings past.marks) (opening_stand program) (entries past.marks past.readings)
+stand_of program past = behind_entries program (accepted_postings past.marks)
+    (opening_stand program) (entries past.marks past.readings)

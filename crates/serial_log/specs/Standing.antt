@@ -1,4 +1,5 @@
--- What a history stands for so far: one reading of its marks from the left. It is told of all marks, legal or not.
+-- What a history stands for so far: one reading of its marks from the left. It is told of all
+-- marks, legal or not.
 use Rattle.std.specs.Prelude.{ℕ, ◌+◌, ◌==◌, List, [], ◌∷◌, ◌++◌, Option, Some, None, if◌then◌else◌}
 use Rattle.task_syntax.specs.declared.program.Program.{Program}
 use Rattle.serial_log.specs.declared.mark.Mark.{Mark}
@@ -59,14 +60,25 @@ left_by _ posting rest = rest
 abbrev pub after_answer : Standing → Raised → Answer → Standing
 after_answer s posted (Accepted number) = record s {
   raised = one_more_of posted.device s.raised;
-  rest = s.rest ++ record { number = number; event = posted.event; argument = posted.argument } ∷ [];
+  rest = s.rest ++ record {
+    number = number;
+    event = posted.event;
+    argument = posted.argument;
+  } ∷ [];
   accepted = s.accepted + 1;
 }
 after_answer s posted Full = record s { raised = one_more_of posted.device s.raised }
-after_answer s posted (Lost boot) = record s { raised = one_more_of posted.device s.raised; lost = Some boot }
+after_answer s posted (Lost boot) = record s {
+  raised = one_more_of posted.device s.raised;
+  lost = Some boot;
+}
 
 abbrev pub after_kind : Program → Standing → ℕ → MarkKind → Standing
-after_kind program s at (Boot number) = record s { boots = s.boots + 1; last_boot = at; lost = None }
+after_kind program s at (Boot number) = record s {
+  boots = s.boots + 1;
+  last_boot = at;
+  lost = None;
+}
 after_kind program s at (Posted posted) = after_answer s posted posted.answer
 after_kind program s at (Commit committed) = record s {
   run = behind_record program s.rest s.run committed;
@@ -76,7 +88,8 @@ after_kind program s at _ = s
 
 -- what a history stands for with one mark more
 abbrev pub after_mark : Program → Standing → Mark → Standing
-after_mark program s mark = let next : Standing = after_kind program s mark.at mark.kind in record next { latest = mark.at }
+after_mark program s mark = let next : Standing =
+    after_kind program s mark.at mark.kind in record next { latest = mark.at }
 
 -- what a history stands for
 abbrev pub standing_of : Program → List Mark → Standing

@@ -8,8 +8,9 @@ use coati_word::{OutOfMemory, Reading};
 use std::alloc::Global;
 use std::marker::Model;
 
-/// The observer's record of a run. It is no memory of the device, and outlives cuts of power. A contract sees the marks,
-/// the readings of all records in one list, and the room that is left for either.
+/// The observer's record of a run. It is no memory of the device, and outlives cuts of power. A
+/// contract sees the marks, the readings of all records in one list, and the room that is left for
+/// either.
 #[derive(Drop)]
 pub struct History {
     marks: Vec<Mark>,
@@ -23,7 +24,13 @@ impl Model for History {
 
     ghost Value = { Past };
 
-    ghost view = { λ h. record { marks = h.marks.items; mark_room = vec_capacity h.marks - vec_len h.marks; readings = h.readings.items; reading_room = vec_capacity h.readings - vec_len h.readings } };
+    ghost view = { λ h. record {
+      marks = h.marks.items;
+      mark_room = vec_capacity h.marks - vec_len h.marks;
+      readings =
+          h.readings.items;
+      reading_room = vec_capacity h.readings - vec_len h.readings;
+    } };
 
     ghost invariant = { λ h. IsKept h.marks.items h.readings.items };
 }
@@ -40,7 +47,8 @@ impl History {
         }
     }
 
-    /// Makes room for so many marks and readings more. After a refusal there is at least the room of before.
+    /// Makes room for so many marks and readings more. After a refusal there is at least the room
+    /// of before.
     pub fn reserve(&mut self, marks: u32, readings: u32) -> Result<(), OutOfMemory>
         ensures marks { self.new.marks ≡ self.old.marks }
         ensures readings { self.new.readings ≡ self.old.readings }

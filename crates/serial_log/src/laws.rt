@@ -5,7 +5,8 @@ ghost use Rattle.serial_log.specs.Laws.{LegalHistoriesKeepEachFact, MarksJoinUp}
 ghost use Rattle.serial_log.specs.Laws.{RecordsKeepReadings, RestIsUnrecorded};
 ghost use Rattle.serial_log.specs.Laws.{SerialRunsAgree, TurnsGoOn};
 
-/// A legal mark behind legal marks makes legal marks, and they stand for what that mark makes of the standing before.
+/// A legal mark behind legal marks makes legal marks, and they stand for what that mark makes of
+/// the standing before.
 pub fn histories_go_on()
     ensures { HistoriesGoOn }
 {}
@@ -26,22 +27,26 @@ pub fn records_keep_readings()
     ensures marks { LegalMarksStay }
 {}
 
-/// A legal history is a serial run over all its accepted postings, and its postings, aborts and boots are legal.
+/// A legal history is a serial run over all its accepted postings, and its postings, aborts and
+/// boots are legal.
 pub fn legal_histories_keep_each_fact()
     ensures { LegalHistoriesKeepEachFact }
 {}
 
-/// Where postings are legal, the rest is the accepted postings that are in no record, in their order.
+/// Where postings are legal, the rest is the accepted postings that are in no record, in their
+/// order.
 pub fn rest_is_unrecorded()
     ensures { RestIsUnrecorded }
 {}
 
-/// A legal history's store and place are told by its records and the postings that these serve, and by nothing else.
+/// A legal history's store and place are told by its records and the postings that these serve,
+/// and by nothing else.
 pub fn commits_tell_the_stand()
     ensures { CommitsTellTheStand }
 {}
 
-/// Two serial runs of a program without events agree as far as both go: in units, tasks and readings.
+/// Two serial runs of a program without events agree as far as both go: in units, tasks and
+/// readings.
 pub fn serial_runs_agree()
     ensures { SerialRunsAgree }
 {

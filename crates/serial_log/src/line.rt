@@ -2,7 +2,8 @@ use crate::abort::AbortOf;
 use crate::posted::Posted;
 use crate::record::Record;
 
-/// A printed mark. A task that is done within its transaction isn't printed, nor is the time of a commit or an abort.
+/// A printed mark. A task that is done within its transaction isn't printed, nor is the time of a
+/// commit or an abort.
 #[derive(Clone, Copy, Debug, PartialEq, Eq)]
 pub enum Line {
     Boot { number: u32, at: u32 },

@@ -1,5 +1,5 @@
--- How far a run has come: the store there, and what is kept of the accesses before. Notes are the readings, or else which
--- words were read before they were written, and which were written.
+-- How far a run has come: the store there, and what is kept of the accesses before. Notes are the
+-- readings, or else which words were read before they were written, and which were written.
 use Rattle.std.specs.Prelude.{ℕ, ◌==◌, Bool, true, false, List, [], ◌∷◌, ◌++◌, length, slice_index, if◌then◌else◌, ◌≡◌}
 use Rattle.coati_word.specs.declared.reading.Reading.{Reading}
 use Rattle.task_syntax.specs.Course.{Course, Store, put, Access, accesses, answer}
@@ -23,10 +23,13 @@ pub data Notes : Type 0 where
 
 -- what is kept with an access more
 abbrev pub noted : Access → Notes → Notes
-noted (Access.read word value) (Notes.all_readings before) = Notes.all_readings (before ++ record { word = word; value = value } ∷ [])
+noted (Access.read word value) (Notes.all_readings before) =
+    Notes.all_readings (before ++ record { word = word; value = value } ∷ [])
 noted (Access.wrote word value) (Notes.all_readings before) = Notes.all_readings before
-noted (Access.read word value) (Notes.touched shared written) = Notes.touched (if written word then shared else marked word shared) written
-noted (Access.wrote word value) (Notes.touched shared written) = Notes.touched shared (marked word written)
+noted (Access.read word value) (Notes.touched shared written) =
+    Notes.touched (if written word then shared else marked word shared) written
+noted (Access.wrote word value) (Notes.touched shared written) =
+    Notes.touched shared (marked word written)
 
 -- the readings that are kept
 abbrev pub readings_in : Notes → List Reading
@@ -56,16 +59,32 @@ pub record Leaves (m : Moment) (words : List ℕ) (readings : List Reading) : Ty
 
 -- the moment at which a run begins whose readings are kept
 abbrev pub reading_from : List ℕ → Moment
-reading_from words = record { count = length words; store = slice_index words; kept = Notes.all_readings [] }
+reading_from words = record {
+  count = length words;
+  store = slice_index words;
+  kept = Notes.all_readings [];
+}
 
 -- the moment at which a run begins of which it is kept which words are touched
 abbrev pub touching_from : List ℕ → Moment
-touching_from words = record { count = length words; store = slice_index words; kept = Notes.touched no_marks no_marks }
+touching_from words = record {
+  count = length words;
+  store = slice_index words;
+  kept = Notes.touched no_marks no_marks;
+}
 
 -- the moment behind an access
 abbrev pub behind_access : Access → Moment → Moment
-behind_access (Access.read word value) m = record { count = m.count; store = m.store; kept = noted (Access.read word value) m.kept }
-behind_access (Access.wrote word value) m = record { count = m.count; store = put word value m.store; kept = noted (Access.wrote word value) m.kept }
+behind_access (Access.read word value) m = record {
+  count = m.count;
+  store = m.store;
+  kept = noted (Access.read word value) m.kept;
+}
+behind_access (Access.wrote word value) m = record {
+  count = m.count;
+  store = put word value m.store;
+  kept = noted (Access.wrote word value) m.kept;
+}
 
 -- the moment behind accesses, one after another
 abbrev pub behind_all : List Access → Moment → Moment

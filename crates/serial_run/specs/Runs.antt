@@ -16,7 +16,11 @@ kept_of (Readings before) = Notes.all_readings before.items
 kept_of (Touches shared written) = Notes.touched (marks_of shared.items) (marks_of written.items)
 
 abbrev pub moment_of : Run → Moment
-moment_of run = record { count = vec_len run.words; store = slice_index run.words.items; kept = kept_of run.kept }
+moment_of run = record {
+  count = vec_len run.words;
+  store = slice_index run.words.items;
+  kept = kept_of run.kept;
+}
 
 -- the run is one of this program
 abbrev pub IsRunOf : Program → Run → Type 0

@@ -8,7 +8,8 @@ use Rattle.serial_run.specs.Moments.{Marks}
 -- the marked words among the first ones
 abbrev pub marked_below : ℕ → Marks → List ℕ
 marked_below zero marks = []
-marked_below (suc count) marks = marked_below count marks ++ (if marks count then count ∷ [] else [])
+marked_below (suc count) marks = marked_below count marks
+    ++ (if marks count then count ∷ [] else [])
 
 -- the list rises and has exactly the marked words
 pub record TellsWords (marks : Marks) (words : List ℕ) : Type 0 where

@@ -5,7 +5,8 @@ use Rattle.task_syntax.specs.Units.{Reached, tasks_effect}
 use Rattle.serial_run.specs.Moments.{Moment, behind_all}
 
 -- so many tasks lead from a moment to another one, and to a place
-pub record TasksLead (program : Program) (task : ℕ) (m : Moment) (count : ℕ) (n : Moment) (place : ℕ) : Type 0 where
+pub record TasksLead (program : Program) (task : ℕ) (m : Moment) (count : ℕ) (n : Moment)
+    (place : ℕ) : Type 0 where
   pub reached : Reached
   pub tasks_done : tasks_effect program task m.store count ≡ Some reached
   pub moment : n ≡ behind_all reached.done m

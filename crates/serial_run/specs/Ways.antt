@@ -1,4 +1,5 @@
--- Where the code goes on: behind a statement that ended the body, or with the locals that stand there.
+-- Where the code goes on: behind a statement that ended the body, or with the locals that stand
+-- there.
 use Rattle.std.specs.Prelude.{Option, Some, None}
 use Rattle.coati_word.specs.declared.ending.Ending.{Ending}
 use Rattle.task_syntax.specs.Expressions.{Locals}

@@ -65,7 +65,8 @@ impl SerialStore {
     ) -> Result<(SerialStore, Outcome), OutOfMemory>
         requires words { length self ≡ word_count checked.now.vars }
         requires task { task < length (tasks checked.now) }
-        ensures { IfOk result (λ ran. TellsCourse self (task_course checked.now task) ran.0 ran.1) }
+        ensures { IfOk result (λ ran. TellsCourse self (task_course checked.now task) ran.0
+            ran.1) }
     {
         let SerialStore { alloc, words } = self;
         let mut run = Run::reading(alloc, words);
@@ -73,8 +74,8 @@ impl SerialStore {
         Ok(told(alloc, run, ending))
     }
 
-    /// Runs so many tasks of a transaction from its first one on. They make it whole where the last
-    /// of them halts or leads outside, and none before did.
+    /// Runs so many tasks of a transaction from its first one on. They make it whole where the
+    /// last of them halts or leads outside, and none before did.
     pub fn run_tx(self, checked: &Checked, tx: u16, count: u32) -> Result<TxRun, OutOfMemory>
         requires words { length self ≡ word_count checked.now.vars }
         requires tx { tx < length (transactions checked.now) }

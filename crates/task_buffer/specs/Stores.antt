@@ -4,7 +4,8 @@ use Rattle.nv_memory.specs.declared.log.Log.{Log}
 use Rattle.nv_memory.specs.State.{Change, State, set_to}
 use Rattle.nv_memory.specs.Logs.{log_index, log_length, log_value, number_in, pair_value_in, seats_of}
 
--- the value is written over the one that the log has, or the part of a new pair: word number, value, longer log
+-- the value is written over the one that the log has, or the part of a new pair: word number,
+-- value, longer log
 abbrev pub part_change : State → Log → (word value part : ℕ) → Change
 part_change s log word value zero = set_to ((seats_of log).number (log_length s log)) word
 part_change s log word value (suc zero) = set_to ((seats_of log).value (log_length s log)) value

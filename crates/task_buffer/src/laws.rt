@@ -1,8 +1,10 @@
-//! What follows from the definitions: each function's contract is a law, and its body does nothing.
+//! What follows from the definitions: each function's contract is a law, and its body does
+//! nothing.
 
 ghost use Rattle.task_buffer.specs.StoreLaws.{ResetsEmptyTheLog, StoresSetTheValue};
 
-/// A store makes the log that with the value set, at its last part and not before, and changes nothing beside the log.
+/// A store makes the log that with the value set, at its last part and not before, and changes
+/// nothing beside the log.
 pub fn stores_set_the_value()
     ensures { StoresSetTheValue }
 {}

@@ -6,8 +6,9 @@ ghost use Rattle.task_buffer.specs.Stores.{IsBegun, store_change, store_ends};
 
 use nv_memory::{Image, Log, Write};
 
-/// The write of a part, counted from 0, of the store of a value in a word, and whether it ends the store. A word that the log
-/// has takes its value at once; else the word number, the value and the longer log are written, in this order.
+/// The write of a part, counted from 0, of the store of a value in a word, and whether it ends the
+/// store. A word that the log has takes its value at once; else the word number, the value and the
+/// longer log are written, in this order.
 pub fn store_write(img: &Image, log: Log, word: u16, value: u16, part: u8) -> (Write, bool)
     requires range { InRange (state img.now) }
     requires log { HasLog img.now.k log }
@@ -39,7 +40,8 @@ pub fn store_write(img: &Image, log: Log, word: u16, value: u16, part: u8) -> (W
     }
 }
 
-// Which pair of the log has the word. A store that goes on has found none, so only its first part walks the log.
+// Which pair of the log has the word. A store that goes on has found none, so only its first part
+// walks the log.
 #[tactic(auto, using(crate::proofs::Parts::none_once_begun))]
 fn place(img: &Image, log: Log, word: u16, value: u16, part: u8) -> Option<u16>
     requires range { InRange (state img.now) }

@@ -1,4 +1,5 @@
--- Which programs are accepted, and how another one is refused: at the rule of least number that it breaks, at its least place.
+-- Which programs are accepted, and how another one is refused: at the rule of least number that it
+-- breaks, at its least place.
 use Rattle.std.specs.Prelude.{ℕ, ◌≡◌, ◌≤◌, ◌<◌, ◌==◌, ⊤, List, [], ◌∷◌, map, find, slice_index_or, Option, Some, None, Result, Err}
 use Rattle.task_syntax.specs.declared.program.Program.{Program}
 use Rattle.task_check.specs.declared.rule.Rule.{Rule}
@@ -62,15 +63,19 @@ places number program = slice_index_or (rules program) number []
 
 -- the program keeps the rules from one number up to another, which is not among them
 abbrev pub Keeps : Program → ℕ → ℕ → Type 0
-Keeps program first behind = (number : ℕ) → first ≤ number → number < behind → places number program ≡ []
+Keeps program first behind = (number : ℕ) → first ≤ number → number < behind →
+    places number program ≡ []
 
 -- rule 16 tells the number of the first body at the place
 abbrev pub TellsNumber : Program → Rule → ℕ → Type 0
-TellsNumber program (TooLong number) at = find (λ (body : ℕ × ℕ). body.0 == at) (too_long_places program) ≡ Some (at, number)
+TellsNumber program (TooLong number) at = find (λ (body : ℕ
+    × ℕ). body.0 == at) (too_long_places program) ≡ Some (at, number)
 TellsNumber program rule at = ⊤
 
--- of the rules from one number up to another this is the first that the program breaks, and this its least place
-pub record IsFirstBroken (program : Program) (first behind : ℕ) (rule : Rule) (at : ℕ) : Type 0 where
+-- of the rules from one number up to another this is the first that the program breaks, and this
+-- its least place
+pub record IsFirstBroken (program : Program) (first behind : ℕ) (rule : Rule) (at : ℕ)
+    : Type 0 where
   pub from : first ≤ number_of rule
   pub before : number_of rule < behind
   pub earlier : Keeps program first (number_of rule)

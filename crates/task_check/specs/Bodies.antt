@@ -1,5 +1,5 @@
--- The bodies of a program in their order: those of the tasks by number, and then of each event its top half and its
--- bottom half.
+-- The bodies of a program in their order: those of the tasks by number, and then of each event its
+-- top half and its bottom half.
 use Rattle.std.specs.Prelude.{ℕ, List, [], ◌∷◌, ◌++◌, map, flat_map}
 use Rattle.task_syntax.specs.declared.program.Program.{Program}
 use Rattle.task_syntax.specs.declared.program.Event.{Event}
@@ -23,11 +23,21 @@ task_body task = record { at = task.name.at; kind = Task; params = []; statement
 
 -- a top half takes the argument
 abbrev pub top_half : Event → BodyRead
-top_half event = record { at = event.name.at; kind = Top; params = event.argument ∷ []; statements = event.top }
+top_half event = record {
+  at = event.name.at;
+  kind = Top;
+  params = event.argument ∷ [];
+  statements = event.top;
+}
 
 -- a bottom half takes the parameters
 abbrev pub bottom_half : Event → BodyRead
-bottom_half event = record { at = event.name.at; kind = Bottom; params = event.params; statements = event.bottom }
+bottom_half event = record {
+  at = event.name.at;
+  kind = Bottom;
+  params = event.params;
+  statements = event.bottom;
+}
 
 -- the halves of an event
 abbrev pub halves : Event → List BodyRead

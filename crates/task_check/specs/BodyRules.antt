@@ -11,7 +11,12 @@ use Rattle.task_check.specs.Measures.{too_many_locals, too_deep_stack}
 
 -- the body that is read
 abbrev pub read : Body → BodyRead
-read body = record { at = body.at; kind = body.kind; params = body.params.now; statements = body.statements.now }
+read body = record {
+  at = body.at;
+  kind = body.kind;
+  params = body.params.now;
+  statements = body.statements.now;
+}
 
 -- where a body breaks the rule
 abbrev pub broken_in : BodyRule → BodyRead → List ℕ

@@ -1,4 +1,5 @@
--- The rules of counts: of values and turns, of the buffer, of words, and of tasks, events and transactions.
+-- The rules of counts: of values and turns, of the buffer, of words, and of tasks, events and
+-- transactions.
 use Rattle.std.specs.Prelude.{ℕ, ◌+◌, Bool, true, false, ◌&&◌, nat_le, List, [], ◌∷◌, ◌++◌, length, map, flat_map, slice_get, Option, Some, None}
 use Rattle.std.specs.List.{concat}
 use Rattle.task_syntax.specs.declared.name.Name.{Name}
@@ -46,7 +47,8 @@ abbrev pub bad_loops_step : Stmt-F (List ℕ) → List ℕ
 bad_loops_step (Stmt-F.Let name e) = []
 bad_loops_step (Stmt-F.Assign place e) = []
 bad_loops_step (Stmt-F.If condition block other) = concat block ++ in_other other
-bad_loops_step (Stmt-F.Repeat name count block) = unless (is_between 1 50000 count) name.at ++ concat block
+bad_loops_step (Stmt-F.Repeat name count block) = unless (is_between 1 50000 count) name.at
+    ++ concat block
 bad_loops_step (Stmt-F.Next name) = []
 bad_loops_step (Stmt-F.Halt at) = []
 bad_loops_step (Stmt-F.Give es at) = []
@@ -79,7 +81,8 @@ bad_buffer_places program = bad_buffer program.buffer
 -- the variables with which there are more than 256 words, where so many stand before them
 abbrev pub words_above : ℕ → List Var → List ℕ
 words_above before [] = []
-words_above before (var ∷ vars) = unless (nat_le (before + count_of var.length) 256) var.name.at ++ words_above (before + count_of var.length) vars
+words_above before (var ∷ vars) = unless (nat_le (before + count_of var.length) 256) var.name.at
+    ++ words_above (before + count_of var.length) vars
 
 -- rule 6
 abbrev pub too_many_words_places : Program → List ℕ

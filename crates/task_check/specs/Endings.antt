@@ -1,4 +1,5 @@
--- Endings of bodies. `next`, `halt` and `give` are endings. They stand last in a task or a top half, and nowhere else.
+-- Endings of bodies. `next`, `halt` and `give` are endings. They stand last in a task or a top
+-- half, and nowhere else.
 use Rattle.std.specs.Prelude.{ℕ, List, [], ◌∷◌, ◌++◌, map, flat_map, ◌&&◌, Bool, true, false, Option, Some, None, if◌then◌else◌}
 use Rattle.task_syntax.specs.declared.program.Program.{Program}
 use Rattle.task_syntax.specs.declared.statement.Stmt.{Stmt}

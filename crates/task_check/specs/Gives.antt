@@ -1,4 +1,5 @@
--- Messages from a top half to its bottom half: four words at most, and as many as the bottom half takes.
+-- Messages from a top half to its bottom half: four words at most, and as many as the bottom half
+-- takes.
 use Rattle.std.specs.Prelude.{ℕ, ◌==◌, List, [], ◌∷◌, ◌++◌, map, flat_map, length, slice_get, if◌then◌else◌}
 use Rattle.std.specs.List.{concat}
 use Rattle.std.specs.Option.{option_to_list}

@@ -4,8 +4,8 @@
 pub mod Accepted
 pub mod RefusalLaws
 pub mod WellFormed
--- The rules by their numbers: names (1 to 3), counts (4 to 7), endings (8 and 9), transitions (10), top halves (11),
--- messages (12), loops (13) and measures (14 to 16).
+-- The rules by their numbers: names (1 to 3), counts (4 to 7), endings (8 and 9), transitions
+-- (10), top halves (11), messages (12), loops (13) and measures (14 to 16).
 pub mod Scope
 pub mod Mentions
 pub mod NameRules
@@ -16,7 +16,8 @@ pub mod Tops
 pub mod Gives
 pub mod Loops
 pub mod Measures
--- What stands below several rules: the bodies of a program, what is found in blocks, and the least of places.
+-- What stands below several rules: the bodies of a program, what is found in blocks, and the least
+-- of places.
 pub mod Bodies
 pub mod Blocks
 pub mod Least

@@ -50,7 +50,8 @@ in_other (Some block) loops = in_block block loops
 abbrev pub assigned_step : Stmt-F Within → Within
 assigned_step (Stmt-F.Let name e) loops = []
 assigned_step (Stmt-F.Assign place e) loops = flat_map (place_among loops) (plain_name place)
-assigned_step (Stmt-F.If condition block other) loops = in_block block loops ++ in_other other loops
+assigned_step (Stmt-F.If condition block other) loops =
+    in_block block loops ++ in_other other loops
 assigned_step (Stmt-F.Repeat name count block) loops = in_block block (name.text ∷ loops)
 assigned_step (Stmt-F.Next name) loops = []
 assigned_step (Stmt-F.Halt at) loops = []

@@ -1,4 +1,5 @@
--- Bodies that are too large: in their locals, in the operand words that they need, or in their steps and words of code.
+-- Bodies that are too large: in their locals, in the operand words that they need, or in their
+-- steps and words of code.
 use Rattle.std.specs.Prelude.{ℕ, ◌≡◌, ◌==◌, List, [], ◌∷◌, map, find, flat_map, length, max, nat_lt, Option, Some, None, if◌then◌else◌}
 use Rattle.task_syntax.specs.declared.program.Program.{Program}
 use Rattle.task_syntax.specs.Cost.{body_cost}
@@ -31,11 +32,13 @@ too_deep_stack_places program = flat_map too_deep_stack (bodies program)
 
 -- the greater of a body's cost and its words of code, as far as 32 bits tell
 abbrev pub size_of : Program → BodyRead → ℕ
-size_of program body = saturated (max (body_cost program body.statements body.kind) (body_words body.statements body.kind))
+size_of program body = saturated (max (body_cost program body.statements body.kind)
+    (body_words body.statements body.kind))
 
 -- a body that is larger than 50,000, with its size
 abbrev pub too_long : Program → BodyRead → List (ℕ × ℕ)
-too_long program body = if nat_lt 50000 (size_of program body) then (body.at, size_of program body) ∷ [] else []
+too_long program body = if nat_lt 50000 (size_of program body) then (body.at, size_of program body)
+    ∷ [] else []
 
 -- rule 16: where a body is larger than 50,000, with its size
 abbrev pub too_long_places : Program → List (ℕ × ℕ)

@@ -1,5 +1,6 @@
--- The names of a program where they stand, each with what it stands for there. A local is in scope from the end of its
--- declaration to the end of its block, a loop's name in the loop's block alone.
+-- The names of a program where they stand, each with what it stands for there. A local is in scope
+-- from the end of its declaration to the end of its block, a loop's name in the loop's block
+-- alone.
 use Rattle.std.specs.Prelude.{ℕ, List, [], ◌∷◌, ◌++◌, map, flat_map, Option, Some, None}
 use Rattle.task_syntax.specs.declared.name.Name.{Name}
 use Rattle.task_syntax.specs.declared.program.Program.{Program}
@@ -47,12 +48,18 @@ uses names scope = record { mentions = names scope; scope = scope }
 
 -- a name that is declared
 abbrev pub declares : Meaning → Name → Part
-declares meaning name scope = record { mentions = mention role.Declared name scope ∷ []; scope = with_name scope name.text meaning }
+declares meaning name scope = record {
+  mentions = mention role.Declared name scope ∷ [];
+  scope = with_name scope name.text meaning;
+}
 
 -- one part behind another
 abbrev pub chain : Part → Part → Part
 chain first second scope =
-    record { mentions = (first scope).mentions ++ (second (first scope).scope).mentions; scope = (second (first scope).scope).scope }
+    record {
+      mentions = (first scope).mentions ++ (second (first scope).scope).mentions;
+      scope = (second (first scope).scope).scope;
+    }
 
 -- parts, one behind another
 abbrev pub in_turn : List Part → Part
@@ -64,24 +71,28 @@ abbrev pub within : Part → Part
 within block scope = record { mentions = (block scope).mentions; scope = scope }
 
 -- one layer of an expression
-abbrev pub expression_mentions_step : Expr-F (Scope → List Mention) (Scope → List Mention) → Scope → List Mention
+abbrev pub expression_mentions_step : Expr-F (Scope → List Mention) (Scope → List Mention) →
+    Scope → List Mention
 expression_mentions_step (Expr-F.Num number) scope = []
 expression_mentions_step (Expr-F.Get place) scope = place scope
 expression_mentions_step (Expr-F.One op operand) scope = operand scope
 expression_mentions_step (Expr-F.Two op left right) scope = left scope ++ right scope
 
 -- one layer of a place
-abbrev pub place_mentions_step : Place-F (Scope → List Mention) (Scope → List Mention) → Scope → List Mention
+abbrev pub place_mentions_step : Place-F (Scope → List Mention) (Scope → List Mention) → Scope →
+    List Mention
 place_mentions_step (Place-F.Plain name) scope = mention role.Plain name scope ∷ []
 place_mentions_step (Place-F.Item name index) scope = mention role.Item name scope ∷ index scope
 
 -- the names of an expression
 abbrev pub expression_mentions : Expr → Scope → List Mention
-expression_mentions = fold-Expr (Scope → List Mention) (Scope → List Mention) expression_mentions_step place_mentions_step
+expression_mentions = fold-Expr (Scope → List Mention) (Scope →
+    List Mention) expression_mentions_step place_mentions_step
 
 -- the names of a place
 abbrev pub place_mentions : Place → Scope → List Mention
-place_mentions = fold-Place (Scope → List Mention) (Scope → List Mention) expression_mentions_step place_mentions_step
+place_mentions = fold-Place (Scope → List Mention) (Scope →
+    List Mention) expression_mentions_step place_mentions_step
 
 -- the names of expressions, one after another
 abbrev pub expressions_mentions : List Expr → Scope → List Mention
@@ -94,10 +105,14 @@ otherwise (Some block) = within (in_turn block)
 
 -- one layer of a statement
 abbrev pub statement_part_step : Stmt-F Part → Part
-statement_part_step (Stmt-F.Let name e) = chain (uses (expression_mentions e)) (declares meaning.Local name)
-statement_part_step (Stmt-F.Assign place e) = chain (uses (place_mentions place)) (uses (expression_mentions e))
-statement_part_step (Stmt-F.If condition block other) = chain (uses (expression_mentions condition)) (chain (within (in_turn block)) (otherwise other))
-statement_part_step (Stmt-F.Repeat name count block) = within (chain (declares meaning.Local name) (in_turn block))
+statement_part_step (Stmt-F.Let name e) = chain (uses (expression_mentions e))
+    (declares meaning.Local name)
+statement_part_step (Stmt-F.Assign place e) =
+    chain (uses (place_mentions place)) (uses (expression_mentions e))
+statement_part_step (Stmt-F.If condition block other) =
+    chain (uses (expression_mentions condition)) (chain (within (in_turn block)) (otherwise other))
+statement_part_step (Stmt-F.Repeat name count block) =
+    within (chain (declares meaning.Local name) (in_turn block))
 statement_part_step (Stmt-F.Next name) = uses (λ scope. mention role.Next name scope ∷ [])
 statement_part_step (Stmt-F.Halt at) = in_turn []
 statement_part_step (Stmt-F.Give es at) = uses (expressions_mentions es)
@@ -138,7 +153,8 @@ unit_part (Tx tx) = chain (declares meaning.Transaction tx.name) (in_turn (map t
 
 -- the global names, in the order of their declarations
 unfoldable pub globals_part : Program → Part
-globals_part program = chain (in_turn (map var_part program.vars)) (chain (in_turn (map event_part program.events)) (in_turn (map unit_part program.units)))
+globals_part program = chain (in_turn (map var_part program.vars))
+    (chain (in_turn (map event_part program.events)) (in_turn (map unit_part program.units)))
 
 -- the two halves of an event
 unfoldable pub halves_part : Event → Part
@@ -156,7 +172,8 @@ unit_bodies unit = in_turn (map body_part (tasks_of_unit unit))
 
 -- the bodies, each of which sees all global names
 unfoldable pub bodies_part : Program → Part
-bodies_part program = chain (in_turn (map halves_part program.events)) (in_turn (map unit_bodies program.units))
+bodies_part program = chain (in_turn (map halves_part program.events))
+    (in_turn (map unit_bodies program.units))
 
 -- the names of a program
 abbrev pub mentions : Program → List Mention

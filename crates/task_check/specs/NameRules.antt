@@ -34,7 +34,8 @@ is_wrong_kind role meaning = not (suits role meaning)
 
 -- the places of those that a test finds
 abbrev pub places_where : (Role → Option Meaning → Bool) → List Mention → List ℕ
-places_where test among = map (λ (m : Mention). m.name.at) (filter (λ (m : Mention). test m.role m.meaning) among)
+places_where test among = map (λ (m : Mention). m.name.at)
+    (filter (λ (m : Mention). test m.role m.meaning) among)
 
 -- rule 1
 abbrev pub twice_named_places : Program → List ℕ

@@ -10,7 +10,8 @@ use Rattle.task_syntax.specs.Names.{Words}
 -- the number of the event of a name, where the first of these events has the number `first`
 abbrev pub event_from : ℕ → List Event → List ℕ → Option ℕ
 event_from first [] name = None
-event_from first (event ∷ more) name = if bytes_eq event.name.text name then Some first else event_from (first + 1) more name
+event_from first (event ∷ more) name = if bytes_eq event.name.text name then Some first
+    else event_from (first + 1) more name
 
 -- the number of the event of a name, where it is one
 abbrev pub event_of : Program → List ℕ → Option ℕ

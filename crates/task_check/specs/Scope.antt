@@ -14,4 +14,5 @@ meaning_of scope name = lookup (bytes_eq name) scope
 
 -- the scope with a name more, unless it has that name already
 abbrev pub with_name : Scope → List ℕ → Meaning → Scope
-with_name scope name meaning = if is_some (meaning_of scope name) then scope else scope ++ (name, meaning) ∷ []
+with_name scope name meaning = if is_some (meaning_of scope name) then scope
+    else scope ++ (name, meaning) ∷ []

@@ -46,7 +46,8 @@ module _ (program : Program) where
   abbrev pub named_step : Stmt-F (List ℕ) → List ℕ
   named_step (Stmt-F.Let name e) = in_expression e
   named_step (Stmt-F.Assign place e) = in_place place ++ in_expression e
-  named_step (Stmt-F.If condition block other) = in_expression condition ++ (concat block ++ in_other other)
+  named_step (Stmt-F.If condition block other) =
+      in_expression condition ++ (concat block ++ in_other other)
   named_step (Stmt-F.Repeat name count block) = concat block
   named_step (Stmt-F.Next name) = []
   named_step (Stmt-F.Halt at) = []

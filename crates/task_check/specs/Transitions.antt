@@ -15,7 +15,8 @@ use Rattle.task_check.specs.Blocks.{in_other}
 module _ (program : Program) where
   -- the transaction, unless the task is its first
   abbrev pub unless_first : ℕ → ℕ → Option ℕ
-  unless_first task tx = if option_map_or (λ first. first == task) (first_task program tx) false then None else Some tx
+  unless_first task tx = if option_map_or (λ first. first == task) (first_task program tx) false
+      then None else Some tx
 
   -- the transaction of a task that is a member of one, and not its first
   abbrev pub midst_of_task : ℕ → Option ℕ
@@ -53,7 +54,8 @@ module _ (program : Program) (own : Option ℕ) where
 abbrev pub enters_in_member : Program → (Option ℕ × TaskDecl) → List ℕ
 enters_in_member program member = enters_in_block program member.0 member.1.body
 
--- each task of these units beside its transaction, where it is a member of one and `tx` transactions stand before
+-- each task of these units beside its transaction, where it is a member of one and `tx`
+-- transactions stand before
 abbrev pub members : ℕ → List UnitDecl → List (Option ℕ × TaskDecl)
 members tx units = zip (memberships tx units) (flat_map tasks_of_unit units)
 

@@ -5,4 +5,7 @@ use Rattle.task_check.specs.Found.{found_among, joined}
 
 -- the walk behind a part
 unfoldable pub behind : Part → Walk → Walk
-behind part walk = record { scope = (part walk.scope).scope; found = joined walk.found (found_among (part walk.scope).mentions) }
+behind part walk = record {
+  scope = (part walk.scope).scope;
+  found = joined walk.found (found_among (part walk.scope).mentions);
+}

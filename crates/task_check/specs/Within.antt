@@ -4,10 +4,12 @@ use Rattle.task_syntax.specs.declared.statement.Stmt.{Stmt, out-Stmt}
 use Rattle.task_syntax.specs.declared.statement.Stmt.TheOpen.{Stmt-F}
 use Rattle.task_check.specs.Least.{least, lesser}
 
--- the least of the places of all elements, whatever places each has, where the least of its own is answered for it
+-- the least of the places of all elements, whatever places each has, where the least of its own is
+-- answered for it
 abbrev pub IsLeastAmong : {X : Type 0} → (X → Option ℕ → Type 0) → List X → Option ℕ → Type 0
 IsLeastAmong {X = X} answers elements found =
-    (places : X → List ℕ) → ((x : X) (at : Option ℕ) → answers x at → at ≡ least (places x)) → found ≡ least (flat_map places elements)
+    (places : X → List ℕ) → ((x : X) (at : Option ℕ) → answers x at → at ≡ least (places x)) →
+    found ≡ least (flat_map places elements)
 
 -- the statements of the block behind `else`, where there is one
 abbrev pub otherwise : Option (List Stmt) → List Stmt
@@ -40,10 +42,11 @@ bare_step (Stmt-F.Give es at) = Stmt-F.Give es at
 abbrev pub bare : Stmt → Stmt-F (List ℕ)
 bare statement = bare_step (out-Stmt statement)
 
--- the least of the places of a block, whatever places statements have, where those of each one are what is answered
--- for it and those right in its blocks
+-- the least of the places of a block, whatever places statements have, where those of each one are
+-- what is answered for it and those right in its blocks
 abbrev pub IsLeastWithin : (Stmt → Option ℕ → Type 0) → List Stmt → Option ℕ → Type 0
 IsLeastWithin answers block found =
     (places : Stmt → List ℕ)
-    → ((s : Stmt) (at : Option ℕ) → answers s at → least (places s) ≡ lesser at (least (flat_map places (nested s))))
+    → ((s : Stmt) (at : Option ℕ) → answers s at →
+    least (places s) ≡ lesser at (least (flat_map places (nested s))))
     → found ≡ least (flat_map places block)

@@ -141,7 +141,8 @@ fn halves_of<'a>(walk: &mut Walk<'a>, event: &'a Event) -> Result<(), OutOfMemor
 #[tactic(auto, using(crate::proofs::Walking::naming))]
 fn bottom<'a>(walk: &mut Walk<'a>, params: &'a [Name], body: &'a [Stmt]) -> Result<(), OutOfMemory>
     ensures { OnOk result (walk.new
-        ≡ behind (within (chain (declares_all meaning.Local params.now) (statements_part body.now)))
+        ≡ behind (within (chain (declares_all meaning.Local params.now)
+        (statements_part body.now)))
         walk.old) }
 {
     let outside = walk.scope.len();

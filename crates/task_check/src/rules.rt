@@ -1,5 +1,5 @@
-//! The rules on bodies: their turns in rule 4, and rules 8 to 16 on their shapes and measures. They
-//! take no memory.
+//! The rules on bodies: their turns in rule 4, and rules 8 to 16 on their shapes and measures.
+//! They take no memory.
 
 mod bodies;
 mod body;

@@ -29,4 +29,5 @@ event_cost program event = top_cost program event + bottom_cost program event
 abbrev pub cost_of : Program → BodyId → ℕ
 cost_of program (Task task) = option_map_or (task_cost program) (slice_get (tasks program) task) 0
 cost_of program (Top event) = option_map_or (top_cost program) (slice_get program.events event) 0
-cost_of program (Bottom event) = option_map_or (bottom_cost program) (slice_get program.events event) 0
+cost_of program (Bottom event) = option_map_or (bottom_cost program)
+    (slice_get program.events event) 0

@@ -1,5 +1,5 @@
--- The bounds of a program, in machine steps: of one attempt, of the writes of one commit, of a power period that
--- suffices, and of one handler.
+-- The bounds of a program, in machine steps: of one attempt, of the writes of one commit, of a
+-- power period that suffices, and of one handler.
 use Rattle.std.specs.Prelude.{ℕ, ◌+◌, ◌*◌, List, map, max}
 use Rattle.task_syntax.specs.declared.program.Program.{Program}
 use Rattle.task_syntax.specs.Depth.{greatest}
@@ -32,12 +32,17 @@ commit_bound program = 8 * word_count program.vars + 20
 abbrev pub handler_bound : Program → ℕ
 handler_bound program = attempt_bound program + commit_bound program
 
--- a power period that suffices: an attempt and a commit for each posting that the buffer may hold, for what is under way,
--- for one undo, and for the task that follows
+-- a power period that suffices: an attempt and a commit for each posting that the buffer may hold,
+-- for what is under way, for one undo, and for the task that follows
 abbrev pub period_bound : Program → ℕ
 period_bound program = (buffer_size program + 3) * handler_bound program
 
 -- the four together
 abbrev pub bounds_of : Program → Bounds
 bounds_of program =
-    record { c = attempt_bound program; a = commit_bound program; b = period_bound program; h = handler_bound program }
+    record {
+      c = attempt_bound program;
+      a = commit_bound program;
+      b = period_bound program;
+      h = handler_bound program;
+    }

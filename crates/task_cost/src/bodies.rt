@@ -4,7 +4,8 @@ ghost use Rattle.task_cost.specs.Bodies.{cost_of};
 use task_check::Checked;
 use task_syntax::{BodyId, Kind, cost};
 
-/// The cost of a body of the program, in machine steps; 0 where the program has no body of this number.
+/// The cost of a body of the program, in machine steps; 0 where the program has no body of this
+/// number.
 pub fn body_cost(checked: &Checked, body: BodyId) -> u32
     ensures cost { result ≡ cost_of checked.now body }
     ensures most { result ≤ 50000 }

@@ -17,7 +17,8 @@ pub fn bounds(checked: &Checked) -> Bounds
     Bounds { c, a, b, h }
 }
 
-/// The greatest cost of a task or an event, in machine steps. No body costs more than 50,000, and an event has two.
+/// The greatest cost of a task or an event, in machine steps. No body costs more than 50,000, and
+/// an event has two.
 fn greatest_cost(checked: &Checked) -> u32
     ensures cost { result ≡ greatest_cost checked.now }
     ensures most { result ≤ 100000 }

@@ -9,24 +9,29 @@ use Rattle.task_lex.specs.declared.symbol.Symbol.{Symbol}
 use Rattle.task_lex.specs.declared.token.Token.{Token}
 use Rattle.task_lex.specs.declared.token.TokenKind.{TokenKind}
 
--- what may stand between tokens, where this rest stands behind it: a blank, or a comment up to the next LF or the end
+-- what may stand between tokens, where this rest stands behind it: a blank, or a comment up to the
+-- next LF or the end
 pub data IsGap : List ℕ → List ℕ → Type 0 where
   blank : (byte : ℕ) (rest : List ℕ) → is_blank byte ≡ true → IsGap (byte ∷ []) rest
-  comment : (words rest : List ℕ) → list_all is_in_comment words ≡ true → begins is_in_comment rest ≡ false
+  comment : (words rest : List ℕ) → list_all is_in_comment words ≡ true →
+      begins is_in_comment rest ≡ false
       → IsGap (hash ∷ words) rest
 
 -- the token of this kind whose text stands at this place
 abbrev pub token_at : TokenKind → ℕ → List ℕ → Token
 token_at kind place word = record { kind = kind; start = place; end = place + length word }
 
--- from a place on the text is these tokens, with gaps between and around them, up to another place and what stands there
+-- from a place on the text is these tokens, with gaps between and around them, up to another place
+-- and what stands there
 pub data Reads : ℕ → List ℕ → List Token → ℕ → List ℕ → Type 0 where
   nothing : (place : ℕ) (text : List ℕ) → Reads place text [] place text
   gap : (place : ℕ) (text word rest : List ℕ) (tokens : List Token) (behind : ℕ) (left : List ℕ)
       → text ≡ word ++ rest → IsGap word rest → Reads (place + length word) rest tokens behind left
       → Reads place text tokens behind left
-  token : (kind : TokenKind) (place : ℕ) (text word rest : List ℕ) (tokens : List Token) (behind : ℕ) (left : List ℕ)
-      → text ≡ word ++ rest → IsToken kind word rest → Reads (place + length word) rest tokens behind left
+  token : (kind : TokenKind) (place : ℕ) (text word rest : List ℕ) (tokens : List Token)
+      (behind : ℕ) (left : List ℕ)
+      → text ≡ word ++ rest → IsToken kind word rest →
+      Reads (place + length word) rest tokens behind left
       → Reads place text (token_at kind place word ∷ tokens) behind left
 
 -- these are the tokens of the text

@@ -3,7 +3,8 @@ use Rattle.std.specs.Prelude.{ℕ, ◌≤◌, ◌<◌, List, [], ◌∷◌, leng
 use Rattle.task_lex.specs.Token.{Spells}
 use Rattle.task_lex.specs.declared.token.Token.{Token}
 
--- from a place on the tokens stand one behind another, none is empty, and the last ends within the length
+-- from a place on the tokens stand one behind another, none is empty, and the last ends within the
+-- length
 abbrev pub AreInOrder : ℕ → List Token → ℕ → Type 0
 AreInOrder place [] len = place ≤ len
 AreInOrder place (token ∷ tokens) len =

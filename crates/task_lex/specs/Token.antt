@@ -27,7 +27,8 @@ greatest_number = 65535
 -- the word is the text of a token of this kind
 abbrev pub Spells : TokenKind → List ℕ → Type 0
 Spells kind.Name word = IsName word × ((keyword : Keyword) → keyword_text keyword ≢ word)
-Spells (kind.Number value) word = IsNumeral word × (digits_value 10 word ≡ value) × (value ≤ greatest_number)
+Spells (kind.Number value) word = IsNumeral word × (digits_value 10 word ≡ value)
+    × (value ≤ greatest_number)
 Spells (kind.Keyword keyword) word = keyword_text keyword ≡ word
 Spells (kind.Symbol symbol) word = symbol_text symbol ≡ word
 
@@ -47,7 +48,8 @@ pub record IsToken (kind : TokenKind) (word rest : List ℕ) : Type 0 where
   pub spelled : Spells kind word
   pub longest : IsLongest kind word rest
 
--- the longest run of digits at the front is no number: its value is too great, or a letter or `_` follows it directly
+-- the longest run of digits at the front is no number: its value is too great, or a letter or `_`
+-- follows it directly
 pub record IsBadNumber (text : List ℕ) : Type 0 where
   pub digits : List ℕ
   pub rest : List ℕ

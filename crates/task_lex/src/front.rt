@@ -76,7 +76,8 @@ fn number(text: &[u8]) -> Front
 /// The greatest number of a source.
 const GREATEST_NUMBER: u32 = 65_535;
 
-/// The value of the digits, or one more than the greatest number where that is less: no run is too long for it.
+/// The value of the digits, or one more than the greatest number where that is less: no run is too
+/// long for it.
 fn value_of(digits: &[u8]) -> u32
     requires { EachIndex digits.now (λ k. IsAsciiDigit (slice_index digits.now k)) }
     ensures { result ≡ min (digits_value 10 digits.now) (GREATEST_NUMBER + 1) }

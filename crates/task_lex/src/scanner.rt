@@ -15,9 +15,12 @@ pub fn lex(alloc: Global, source: &[u8]) -> Result<Vec<Token>, LexFault>
     ensures tokens { IfOk result (λ tokens. Tokens source.now tokens.items) }
     ensures fault { IfErr result (Explains source.now) }
 
-    // A source that has tokens gets them, and a fault that is the first is told, unless memory ran out.
-    ensures accepts { (tokens : List Token) → Tokens source.now tokens → IsAnswer result (Ok tokens) }
-    ensures refuses { (fault : LexFault) → FaultsAt source.now fault → IsAnswer result (Err fault) }
+    // A source that has tokens gets them, and a fault that is the first is told, unless memory ran
+    // out.
+    ensures accepts { (tokens : List Token) → Tokens source.now tokens →
+        IsAnswer result (Ok tokens) }
+    ensures refuses { (fault : LexFault) → FaultsAt source.now fault →
+        IsAnswer result (Err fault) }
 
     ensures order { IfOk result (λ tokens. AreInOrder 0 tokens.items (length source.now)) }
     ensures texts { IfOk result (λ tokens. All (IsTokenOf source.now) tokens.items) }

@@ -39,7 +39,8 @@ pub enum Symbol {
 /// The longest symbol that stands at the front, and its length.
 pub(crate) fn symbol_at(text: &[u8]) -> Option<(Symbol, usize)>
     ensures stands { MatchOption result ((symbol : Symbol) → Fits symbol text.now → ⊥)
-        (λ found. IsToken (TokenKind.Symbol found.0) (take found.1 text.now) (drop found.1 text.now)) }
+        (λ found. IsToken (TokenKind.Symbol found.0) (take found.1 text.now)
+        (drop found.1 text.now)) }
     ensures takes { IfSome result (λ found. (0 < found.1) × (found.1 ≤ length text.now)) }
 {
     match text {

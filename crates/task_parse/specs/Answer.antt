@@ -14,10 +14,11 @@ Explains list (fault.Syntax n) = FaultAt list n
 Explains list (fault.TooDeep n) = DeepAt list n
 Explains list fault.OutOfMemory = Unit {0}
 
--- What may be said of a list of tokens: it is a program and none of them is barred, a token stands where no program goes on
--- with it or the tokens end too early, or a token is barred.
+-- What may be said of a list of tokens: it is a program and none of them is barred, a token stands
+-- where no program goes on with it or the tokens end too early, or a token is barred.
 pub data HasAnswer : List Lexeme → Type 0 where
-  spelled : {list : List Lexeme} (p : Program) → Derives list p → AreFree start list → HasAnswer list
+  spelled : {list : List Lexeme} (p : Program) → Derives list p → AreFree start list →
+      HasAnswer list
   broken : {list : List Lexeme} (n : ℕ) → FaultAt list n → HasAnswer list
   barred : {list : List Lexeme} (n : ℕ) → DeepAt list n → HasAnswer list
 

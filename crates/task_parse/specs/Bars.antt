@@ -14,8 +14,9 @@ most_open = 64
 abbrev pub most_operators : ℕ
 most_operators = 16
 
--- What has been read: how many brackets are open; how many operators each expression under way has outside of its brackets,
--- the innermost first, where one that is not listed has none; and whether an operand has just ended.
+-- What has been read: how many brackets are open; how many operators each expression under way has
+-- outside of its brackets, the innermost first, where one that is not listed has none; and whether
+-- an operand has just ended.
 pub record Scan : Type 0 where
   pub depth : ℕ
   pub counts : List ℕ
@@ -63,8 +64,8 @@ abbrev pub under : List ℕ → List ℕ
 under [] = []
 under (_ ∷ counts) = counts
 
--- Behind a sign that is no operator between operands: a bracket in an expression begins an expression or ends one, and what
--- stands in no expression ends all.
+-- Behind a sign that is no operator between operands: a bracket in an expression begins an
+-- expression or ends one, and what stands in no expression ends all.
 abbrev pub bracketed : List ℕ → Symbol → List ℕ
 bracketed counts sign.OpenParen = 0 ∷ counts
 bracketed counts sign.OpenBracket = 0 ∷ counts
@@ -87,7 +88,11 @@ counted ended counts (Lexeme.sign s) = counted_sign ended counts s (operator_of 
 
 -- what has been read with one more token
 abbrev pub scanned : Scan → Lexeme → Scan
-scanned scan token = record { depth = shift scan.depth token; counts = counted scan.ended scan.counts token; ended = ends_operand token }
+scanned scan token = record {
+  depth = shift scan.depth token;
+  counts = counted scan.ended scan.counts token;
+  ended = ends_operand token;
+}
 
 -- what has been read with more tokens
 abbrev pub scan_from : Scan → List Lexeme → Scan
@@ -96,7 +101,8 @@ scan_from scan (token ∷ list) = scan_from (scanned scan token) list
 
 -- the 65th open bracket, or the 17th binary operator of one expression
 abbrev pub is_barred : Scan → Lexeme → Bool
-is_barred scan token = (opens token && nat_eq scan.depth most_open) || (is_binary scan.ended token && nat_eq (top scan.counts) most_operators)
+is_barred scan token = (opens token && nat_eq scan.depth most_open)
+    || (is_binary scan.ended token && nat_eq (top scan.counts) most_operators)
 
 -- none of the tokens is barred
 abbrev pub AreFree : Scan → List Lexeme → Type 0

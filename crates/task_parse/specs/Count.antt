@@ -12,8 +12,9 @@ abbrev pub operators : {part : Form} {old new : List Lexeme} → Reads part old 
 operators (G.two h tight left right) = operators left + 1 + operators right
 operators _ = 0
 
--- Over the tokens of an expression the scan's innermost count grows by the expression's operators, and all else is as it was
--- before them. Where none of the tokens is barred, the count stays within the limit.
+-- Over the tokens of an expression the scan's innermost count grows by the expression's operators,
+-- and all else is as it was before them. Where none of the tokens is barred, the count stays
+-- within the limit.
 pub record Counts (count : ℕ) (old new : List Lexeme) (scan : Scan) : Type 0 where
   pub tokens : List Lexeme
   pub split : old ≡ tokens ++ new
@@ -21,7 +22,8 @@ pub record Counts (count : ℕ) (old new : List Lexeme) (scan : Scan) : Type 0 w
   pub innermost : top (scan_from scan tokens).counts ≡ top scan.counts + count
   pub around : under (scan_from scan tokens).counts ≡ under scan.counts
   pub ended : (scan_from scan tokens).ended ≡ true
-  pub within : AreFree scan tokens → top scan.counts ≤ most_operators → top scan.counts + count ≤ most_operators
+  pub within : AreFree scan tokens → top scan.counts ≤ most_operators →
+      top scan.counts + count ≤ most_operators
 
 -- the tokens behind which the grammar has a whole expression
 abbrev pub begins_expression : Lexeme → Bool

@@ -1,4 +1,5 @@
--- The grammar. `Reads part old new` says that the list `old` begins with a spelling of the part, behind which `new` stands.
+-- The grammar. `Reads part old new` says that the list `old` begins with a spelling of the part,
+-- behind which `new` stands.
 use Rattle.std.specs.Prelude.{ℕ, suc, ◌≡◌, ◌≤◌, List, [], ◌∷◌, Option, Some, None}
 use Rattle.coati_word.specs.declared.operator.Op.{Op}
 use Rattle.coati_word.specs.declared.operator.Op1.{Op1}
@@ -68,45 +69,69 @@ pub data Form : Type 0 where
 
 pub data Reads : Form → List Lexeme → List Lexeme → Type 0 where
   number : {n at : ℕ} {r : List Lexeme} → Reads (Form.Primary (e.Num n)) (Lexeme.number n at ∷ r) r
-  get : {p : Place} {a b : List Lexeme} → Reads (Form.Target p) a b → Reads (Form.Primary (e.Get p)) a b
-  parens : {x : Expr} {a r : List Lexeme} → Reads (Form.Level 0 x) a (Lexeme.sign sign.CloseParen ∷ r)
+  get : {p : Place} {a b : List Lexeme} → Reads (Form.Target p) a b →
+      Reads (Form.Primary (e.Get p)) a b
+  parens : {x : Expr} {a r : List Lexeme} → Reads (Form.Level 0 x) a
+      (Lexeme.sign sign.CloseParen ∷ r)
       → Reads (Form.Primary x) (Lexeme.sign sign.OpenParen ∷ a) r
   plain : {x : Expr} {a b : List Lexeme} → Reads (Form.Primary x) a b → Reads (Form.Operand x) a b
-  one : {symbol : Symbol} {o : Op1} {x : Expr} {a b : List Lexeme} → unary_of symbol ≡ Some o → Reads (Form.Primary x) a b
+  one : {symbol : Symbol} {o : Op1} {x : Expr} {a b : List Lexeme} → unary_of symbol ≡ Some o →
+      Reads (Form.Primary x) a b
       → Reads (Form.Operand (e.One o x)) (Lexeme.sign symbol ∷ a) b
-  -- An expression of a level is an operand, or two expressions that an operator of at least that level joins. The left
-  -- one may have operators of the same level, the right one has only tighter ones: each level groups to the left.
-  operand : {n : ℕ} {x : Expr} {a b : List Lexeme} → Reads (Form.Operand x) a b → Reads (Form.Level n x) a b
-  two : {n : ℕ} {symbol : Symbol} {o : Op} {x y : Expr} {a b c : List Lexeme} → operator_of symbol ≡ Some o → n ≤ level o
-      → Reads (Form.Level (level o) x) a (Lexeme.sign symbol ∷ b) → Reads (Form.Level (suc (level o)) y) b c
+  -- An expression of a level is an operand, or two expressions that an operator of at least that
+  -- level joins. The left one may have operators of the same level, the right one has only tighter
+  -- ones: each level groups to the left.
+  operand : {n : ℕ} {x : Expr} {a b : List Lexeme} → Reads (Form.Operand x) a b →
+      Reads (Form.Level n x) a b
+  two : {n : ℕ} {symbol : Symbol} {o : Op} {x y : Expr} {a b c : List Lexeme} →
+      operator_of symbol ≡ Some o → n ≤ level o
+      → Reads (Form.Level (level o) x) a (Lexeme.sign symbol ∷ b) →
+      Reads (Form.Level (suc (level o)) y) b c
       → Reads (Form.Level n (e.Two o x y)) a c
-  scalar : {name : Name} {r : List Lexeme} → Reads (Form.Target (place.Plain name)) (Lexeme.name name ∷ r) r
-  item : {name : Name} {i : Expr} {a r : List Lexeme} → Reads (Form.Level 0 i) a (Lexeme.sign sign.CloseBracket ∷ r)
-      → Reads (Form.Target (place.Item name i)) (Lexeme.name name ∷ Lexeme.sign sign.OpenBracket ∷ a) r
+  scalar : {name : Name} {r : List Lexeme} → Reads (Form.Target (place.Plain name))
+      (Lexeme.name name ∷ r) r
+  item : {name : Name} {i : Expr} {a r : List Lexeme} →
+      Reads (Form.Level 0 i) a (Lexeme.sign sign.CloseBracket ∷ r)
+      → Reads (Form.Target (place.Item name i)) (Lexeme.name name
+      ∷ Lexeme.sign sign.OpenBracket ∷ a) r
   no_more : {r : List Lexeme} → Reads (Form.More []) r r
-  one_more : {x : Expr} {xs : List Expr} {a b c : List Lexeme} → Reads (Form.Level 0 x) a b → Reads (Form.More xs) b c
+  one_more : {x : Expr} {xs : List Expr} {a b c : List Lexeme} → Reads (Form.Level 0 x) a b →
+      Reads (Form.More xs) b c
       → Reads (Form.More (x ∷ xs)) (Lexeme.sign sign.Comma ∷ a) c
   no_values : {r : List Lexeme} → Reads (Form.Values []) r r
-  values : {x : Expr} {xs : List Expr} {a b c : List Lexeme} → Reads (Form.Level 0 x) a b → Reads (Form.More xs) b c
+  values : {x : Expr} {xs : List Expr} {a b c : List Lexeme} → Reads (Form.Level 0 x) a b →
+      Reads (Form.More xs) b c
       → Reads (Form.Values (x ∷ xs)) a c
-  declare : {name : Name} {x : Expr} {at : ℕ} {a r : List Lexeme} → Reads (Form.Level 0 x) a (Lexeme.sign sign.Semicolon ∷ r)
-      → Reads (Form.Statement (s.Let name x)) (Lexeme.word keyword.Let at ∷ Lexeme.name name ∷ Lexeme.sign sign.Assign ∷ a) r
-  assign : {p : Place} {x : Expr} {a b r : List Lexeme} → Reads (Form.Target p) a (Lexeme.sign sign.Assign ∷ b)
-      → Reads (Form.Level 0 x) b (Lexeme.sign sign.Semicolon ∷ r) → Reads (Form.Statement (s.Assign p x)) a r
-  choose : {x : Expr} {first : List Stmt} {second : Option (List Stmt)} {at : ℕ} {a b c r : List Lexeme}
-      → Reads (Form.Level 0 x) a b → Reads (Form.Block first) b c → Reads (Form.Otherwise second) c r
+  declare : {name : Name} {x : Expr} {at : ℕ} {a r : List Lexeme} →
+      Reads (Form.Level 0 x) a (Lexeme.sign sign.Semicolon ∷ r)
+      → Reads (Form.Statement (s.Let name x)) (Lexeme.word keyword.Let at ∷ Lexeme.name name
+      ∷ Lexeme.sign sign.Assign ∷ a) r
+  assign : {p : Place} {x : Expr} {a b r : List Lexeme} →
+      Reads (Form.Target p) a (Lexeme.sign sign.Assign ∷ b)
+      → Reads (Form.Level 0 x) b (Lexeme.sign sign.Semicolon ∷ r) →
+      Reads (Form.Statement (s.Assign p x)) a r
+  choose : {x : Expr} {first : List Stmt} {second : Option (List Stmt)} {at : ℕ}
+      {a b c r : List Lexeme}
+      → Reads (Form.Level 0 x) a b → Reads (Form.Block first) b c →
+      Reads (Form.Otherwise second) c r
       → Reads (Form.Statement (s.If x first second)) (Lexeme.word keyword.If at ∷ a) r
-  loop : {name : Name} {n at number_at : ℕ} {ss : List Stmt} {a r : List Lexeme} → Reads (Form.Block ss) a r
+  loop : {name : Name} {n at number_at : ℕ} {ss : List Stmt} {a r : List Lexeme} →
+      Reads (Form.Block ss) a r
       → Reads (Form.Statement (s.Repeat name n ss))
-      (Lexeme.word keyword.Repeat at ∷ Lexeme.name name ∷ Lexeme.sign sign.Below ∷ Lexeme.number n number_at ∷ a) r
+      (Lexeme.word keyword.Repeat at ∷ Lexeme.name name ∷ Lexeme.sign sign.Below
+      ∷ Lexeme.number n number_at ∷ a) r
   next : {name : Name} {at : ℕ} {r : List Lexeme}
-      → Reads (Form.Statement (s.Next name)) (Lexeme.word keyword.Next at ∷ Lexeme.name name ∷ Lexeme.sign sign.Semicolon ∷ r) r
+      → Reads (Form.Statement (s.Next name)) (Lexeme.word keyword.Next at ∷ Lexeme.name name
+      ∷ Lexeme.sign sign.Semicolon ∷ r) r
   halt : {at : ℕ} {r : List Lexeme}
-      → Reads (Form.Statement (s.Halt at)) (Lexeme.word keyword.Halt at ∷ Lexeme.sign sign.Semicolon ∷ r) r
-  give : {xs : List Expr} {at : ℕ} {a r : List Lexeme} → Reads (Form.Values xs) a (Lexeme.sign sign.Semicolon ∷ r)
+      → Reads (Form.Statement (s.Halt at)) (Lexeme.word keyword.Halt at
+      ∷ Lexeme.sign sign.Semicolon ∷ r) r
+  give : {xs : List Expr} {at : ℕ} {a r : List Lexeme} →
+      Reads (Form.Values xs) a (Lexeme.sign sign.Semicolon ∷ r)
       → Reads (Form.Statement (s.Give xs at)) (Lexeme.word keyword.Give at ∷ a) r
   close : {r : List Lexeme} → Reads (Form.Rest []) (Lexeme.sign sign.CloseBrace ∷ r) r
-  more : {first : Stmt} {ss : List Stmt} {a b c : List Lexeme} → Reads (Form.Statement first) a b → Reads (Form.Rest ss) b c
+  more : {first : Stmt} {ss : List Stmt} {a b c : List Lexeme} → Reads (Form.Statement first) a b →
+      Reads (Form.Rest ss) b c
       → Reads (Form.Rest (first ∷ ss)) a c
   block : {ss : List Stmt} {a b : List Lexeme} → Reads (Form.Rest ss) a b
       → Reads (Form.Block ss) (Lexeme.sign sign.OpenBrace ∷ a) b
@@ -118,57 +143,87 @@ pub data Reads : Form → List Lexeme → List Lexeme → Type 0 where
       → Reads (Form.Numbers (n ∷ ns)) (Lexeme.sign sign.Comma ∷ Lexeme.number n at ∷ a) r
   no_length : {r : List Lexeme} → Reads (Form.Length None) r r
   length : {n at : ℕ} {r : List Lexeme}
-      → Reads (Form.Length (Some n)) (Lexeme.sign sign.OpenBracket ∷ Lexeme.number n at ∷ Lexeme.sign sign.CloseBracket ∷ r) r
+      → Reads (Form.Length (Some n)) (Lexeme.sign sign.OpenBracket ∷ Lexeme.number n at
+      ∷ Lexeme.sign sign.CloseBracket ∷ r) r
   none_given : {r : List Lexeme} → Reads (Form.Given init.None) r r
   one_given : {n at : ℕ} {r : List Lexeme}
       → Reads (Form.Given (init.One n)) (Lexeme.sign sign.Assign ∷ Lexeme.number n at ∷ r) r
-  many_given : {n at : ℕ} {ns : List ℕ} {a r : List Lexeme} → Reads (Form.Numbers ns) a (Lexeme.sign sign.CloseBrace ∷ r)
-      → Reads (Form.Given (init.Many (n ∷ ns))) (Lexeme.sign sign.Assign ∷ Lexeme.sign sign.OpenBrace ∷ Lexeme.number n at ∷ a) r
+  many_given : {n at : ℕ} {ns : List ℕ} {a r : List Lexeme} →
+      Reads (Form.Numbers ns) a (Lexeme.sign sign.CloseBrace ∷ r)
+      → Reads (Form.Given (init.Many (n ∷ ns))) (Lexeme.sign sign.Assign
+      ∷ Lexeme.sign sign.OpenBrace ∷ Lexeme.number n at ∷ a) r
   variable : {name : Name} {len : Option ℕ} {given : Init} {at : ℕ} {a b r : List Lexeme}
       → Reads (Form.Length len) a b → Reads (Form.Given given) b (Lexeme.sign sign.Semicolon ∷ r)
-      → Reads (Form.Variable (record { name = name; length = len; init = given })) (Lexeme.word keyword.Nv at ∷ Lexeme.name name ∷ a) r
+      → Reads (Form.Variable (record { name = name; length = len; init = given }))
+      (Lexeme.word keyword.Nv at ∷ Lexeme.name name ∷ a) r
   no_variables : {r : List Lexeme} → Reads (Form.Variables []) r r
-  variables : {v : Var} {vs : List Var} {a b r : List Lexeme} → Reads (Form.Variable v) a b → Reads (Form.Variables vs) b r
+  variables : {v : Var} {vs : List Var} {a b r : List Lexeme} → Reads (Form.Variable v) a b →
+      Reads (Form.Variables vs) b r
       → Reads (Form.Variables (v ∷ vs)) a r
   no_buffer : {r : List Lexeme} → Reads (Form.Buffer None) r r
   buffer : {n number_at at : ℕ} {r : List Lexeme}
       → Reads (Form.Buffer (Some (record { value = n; at = number_at })))
-      (Lexeme.word keyword.Buffer at ∷ Lexeme.number n number_at ∷ Lexeme.sign sign.Semicolon ∷ r) r
+      (Lexeme.word keyword.Buffer at ∷ Lexeme.number n number_at
+      ∷ Lexeme.sign sign.Semicolon ∷ r) r
   no_names : {r : List Lexeme} → Reads (Form.Names []) r r
   names : {name : Name} {ns : List Name} {a r : List Lexeme} → Reads (Form.Names ns) a r
       → Reads (Form.Names (name ∷ ns)) (Lexeme.sign sign.Comma ∷ Lexeme.name name ∷ a) r
   no_params : {r : List Lexeme} → Reads (Form.Params []) r r
   params : {name : Name} {ns : List Name} {a r : List Lexeme} → Reads (Form.Names ns) a r
       → Reads (Form.Params (name ∷ ns)) (Lexeme.name name ∷ a) r
-  event : {name argument : Name} {top bottom : List Stmt} {ns : List Name} {at top_at bottom_at : ℕ} {a b c r : List Lexeme}
-      → Reads (Form.Block top) a (Lexeme.word keyword.Bottom bottom_at ∷ Lexeme.sign sign.OpenParen ∷ b)
+  event : {name argument : Name} {top bottom : List Stmt} {ns : List Name}
+      {at top_at bottom_at : ℕ} {a b c r : List Lexeme}
+      → Reads (Form.Block top) a (Lexeme.word keyword.Bottom bottom_at
+      ∷ Lexeme.sign sign.OpenParen ∷ b)
       → Reads (Form.Params ns) b (Lexeme.sign sign.CloseParen ∷ c)
       → Reads (Form.Block bottom) c (Lexeme.sign sign.CloseBrace ∷ r)
-      → Reads (Form.OneEvent (record { name = name; argument = argument; top = top; params = ns; bottom = bottom }))
-      (Lexeme.word keyword.Event at ∷ Lexeme.name name ∷ Lexeme.sign sign.OpenParen ∷ Lexeme.name argument
-      ∷ Lexeme.sign sign.CloseParen ∷ Lexeme.sign sign.OpenBrace ∷ Lexeme.word keyword.Top top_at ∷ a) r
+      → Reads (Form.OneEvent (record {
+        name = name;
+        argument = argument;
+        top = top;
+        params = ns;
+        bottom = bottom;
+      }))
+      (Lexeme.word keyword.Event at ∷ Lexeme.name name ∷ Lexeme.sign sign.OpenParen
+      ∷ Lexeme.name argument
+      ∷ Lexeme.sign sign.CloseParen ∷ Lexeme.sign sign.OpenBrace
+      ∷ Lexeme.word keyword.Top top_at ∷ a) r
   no_events : {r : List Lexeme} → Reads (Form.Events []) r r
-  events : {v : Event} {vs : List Event} {a b r : List Lexeme} → Reads (Form.OneEvent v) a b → Reads (Form.Events vs) b r
+  events : {v : Event} {vs : List Event} {a b r : List Lexeme} → Reads (Form.OneEvent v) a b →
+      Reads (Form.Events vs) b r
       → Reads (Form.Events (v ∷ vs)) a r
   task : {name : Name} {ss : List Stmt} {at : ℕ} {a r : List Lexeme} → Reads (Form.Block ss) a r
-      → Reads (Form.Task (record { name = name; body = ss })) (Lexeme.word keyword.Task at ∷ Lexeme.name name ∷ a) r
+      → Reads (Form.Task (record { name = name; body = ss })) (Lexeme.word keyword.Task at
+      ∷ Lexeme.name name ∷ a) r
   no_tasks : {r : List Lexeme} → Reads (Form.Tasks []) r r
-  tasks : {t : TaskDecl} {ts : List TaskDecl} {a b r : List Lexeme} → Reads (Form.Task t) a b → Reads (Form.Tasks ts) b r
+  tasks : {t : TaskDecl} {ts : List TaskDecl} {a b r : List Lexeme} → Reads (Form.Task t) a b →
+      Reads (Form.Tasks ts) b r
       → Reads (Form.Tasks (t ∷ ts)) a r
-  lone : {t : TaskDecl} {a r : List Lexeme} → Reads (Form.Task t) a r → Reads (Form.OneUnit (unit.Lone t)) a r
-  transaction : {name : Name} {t : TaskDecl} {ts : List TaskDecl} {at : ℕ} {a b r : List Lexeme} → Reads (Form.Task t) a b
+  lone : {t : TaskDecl} {a r : List Lexeme} → Reads (Form.Task t) a r →
+      Reads (Form.OneUnit (unit.Lone t)) a r
+  transaction : {name : Name} {t : TaskDecl} {ts : List TaskDecl} {at : ℕ} {a b r : List Lexeme} →
+      Reads (Form.Task t) a b
       → Reads (Form.Tasks ts) b (Lexeme.sign sign.CloseBrace ∷ r)
       → Reads (Form.OneUnit (unit.Tx (record { name = name; tasks = t ∷ ts })))
       (Lexeme.word keyword.Transaction at ∷ Lexeme.name name ∷ Lexeme.sign sign.OpenBrace ∷ a) r
   no_units : {r : List Lexeme} → Reads (Form.Units []) r r
-  units : {u : UnitDecl} {us : List UnitDecl} {a b r : List Lexeme} → Reads (Form.OneUnit u) a b → Reads (Form.Units us) b r
+  units : {u : UnitDecl} {us : List UnitDecl} {a b r : List Lexeme} → Reads (Form.OneUnit u) a b →
+      Reads (Form.Units us) b r
       → Reads (Form.Units (u ∷ us)) a r
-  whole : {v : Var} {vs : List Var} {size : Option Number} {es : List Event} {u : UnitDecl} {us : List UnitDecl}
+  whole : {v : Var} {vs : List Var} {size : Option Number} {es : List Event} {u : UnitDecl}
+      {us : List UnitDecl}
       {old behind_first behind_variables behind_buffer behind_events behind_unit new : List Lexeme}
-      → Reads (Form.Variable v) old behind_first → Reads (Form.Variables vs) behind_first behind_variables
-      → Reads (Form.Buffer size) behind_variables behind_buffer → Reads (Form.Events es) behind_buffer behind_events
+      → Reads (Form.Variable v) old behind_first →
+      Reads (Form.Variables vs) behind_first behind_variables
+      → Reads (Form.Buffer size) behind_variables behind_buffer →
+      Reads (Form.Events es) behind_buffer behind_events
       → Reads (Form.OneUnit u) behind_events behind_unit → Reads (Form.Units us) behind_unit new
-      → Reads (Form.Whole (record { vars = v ∷ vs; buffer = size; events = es; units = u ∷ us })) old new
+      → Reads (Form.Whole (record {
+        vars = v ∷ vs;
+        buffer = size;
+        events = es;
+        units = u ∷ us;
+      })) old new
 
 -- the list, and nothing behind it, is the program
 abbrev pub Derives : List Lexeme → Program → Type 0

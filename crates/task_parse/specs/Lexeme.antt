@@ -1,4 +1,5 @@
--- What is read of a token: what it is, with the text of a name, and its place where a tree keeps that.
+-- What is read of a token: what it is, with the text of a name, and its place where a tree keeps
+-- that.
 use Rattle.std.specs.Prelude.{ℕ, List, map, slice_range}
 use Rattle.task_lex.specs.declared.keyword.Keyword.{Keyword}
 use Rattle.task_lex.specs.declared.symbol.Symbol.{Symbol}
@@ -7,7 +8,8 @@ use Rattle.task_lex.specs.declared.token.TokenKind.{TokenKind}
 use Rattle.task_lex.specs.declared.token.TokenKind.TheVariants as kind
 use Rattle.task_syntax.specs.declared.name.Name.{Name}
 
--- a name with its place, a number with its place, a word of the language with its place, or one or two signs
+-- a name with its place, a number with its place, a word of the language with its place, or one or
+-- two signs
 pub data Lexeme : Type 0 where
   name : Name → Lexeme
   number : ℕ → ℕ → Lexeme
@@ -15,7 +17,10 @@ pub data Lexeme : Type 0 where
   sign : Symbol → Lexeme
 
 abbrev pub lexeme_from : List ℕ → TokenKind → ℕ → ℕ → Lexeme
-lexeme_from source kind.Name start end = Lexeme.name (record { text = slice_range source start end; at = start })
+lexeme_from source kind.Name start end = Lexeme.name (record {
+  text = slice_range source start end;
+  at = start;
+})
 lexeme_from source (kind.Number value) start end = Lexeme.number value start
 lexeme_from source (kind.Keyword keyword) start end = Lexeme.word keyword start
 lexeme_from source (kind.Symbol symbol) start end = Lexeme.sign symbol

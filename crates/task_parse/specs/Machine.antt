@@ -1,6 +1,6 @@
--- Reading token by token, with a stack of the parts that are still to come. It builds no tree and knows no levels; it tells
--- where the first fault of a list of tokens is. Only contracts inside this crate cite it: those that others see speak of
--- the grammar alone.
+-- Reading token by token, with a stack of the parts that are still to come. It builds no tree and
+-- knows no levels; it tells where the first fault of a list of tokens is. Only contracts inside
+-- this crate cite it: those that others see speak of the grammar alone.
 use Rattle.std.specs.Prelude.{ℕ, ◌+◌, ◌≡◌, List, [], ◌∷◌, ◌++◌, Bool, true, false, ◌&&◌, ◌||◌, cond, nat_eq, bytes_eq, is_some, Result, Option, Some, None, MatchResult}
 use Rattle.task_lex.specs.Spelling.{keyword_text, symbol_text}
 use Rattle.task_lex.specs.declared.keyword.Keyword.{Keyword}
@@ -49,7 +49,8 @@ pub data Part : Type 0 where
   -- operators and operands, behind so many operators of the same expression
   Ops : ℕ → Part
 
--- what a part makes of a token: it takes it and more is to come, it is over without it, or it does not go on with it
+-- what a part makes of a token: it takes it and more is to come, it is over without it, or it does
+-- not go on with it
 pub data Move : Type 0 where
   Take : List Part → Move
   Skip : Move
@@ -82,27 +83,33 @@ task_then k = Part.AName ∷ block_then k
 -- the parts of a transaction behind `transaction`
 abbrev pub transaction_then : List Part → List Part
 transaction_then k =
-    Part.AName ∷ Part.Sign sign.OpenBrace ∷ Part.Word keyword.Task ∷ task_then (Part.Members ∷ Part.Sign sign.CloseBrace ∷ k)
+    Part.AName ∷ Part.Sign sign.OpenBrace ∷ Part.Word keyword.Task
+    ∷ task_then (Part.Members ∷ Part.Sign sign.CloseBrace ∷ k)
 
 -- the parts of an event behind `event`
 abbrev pub event_then : List Part → List Part
 event_then k =
-    Part.AName ∷ Part.Sign sign.OpenParen ∷ Part.AName ∷ Part.Sign sign.CloseParen ∷ Part.Sign sign.OpenBrace ∷ Part.Word keyword.Top
-    ∷ block_then (Part.Word keyword.Bottom ∷ Part.Sign sign.OpenParen ∷ Part.Params ∷ Part.Sign sign.CloseParen
+    Part.AName ∷ Part.Sign sign.OpenParen ∷ Part.AName ∷ Part.Sign sign.CloseParen
+    ∷ Part.Sign sign.OpenBrace ∷ Part.Word keyword.Top
+    ∷ block_then (Part.Word keyword.Bottom ∷ Part.Sign sign.OpenParen ∷ Part.Params
+    ∷ Part.Sign sign.CloseParen
     ∷ block_then (Part.Sign sign.CloseBrace ∷ k))
 
 -- the parts of a whole program
 abbrev pub whole_parts : List Part
-whole_parts = Part.Word keyword.Nv ∷ variable_then (Part.Variables ∷ Part.Buffer ∷ Part.Events ∷ Part.AUnit ∷ Part.Units ∷ [])
+whole_parts = Part.Word keyword.Nv ∷ variable_then (Part.Variables ∷ Part.Buffer ∷ Part.Events
+    ∷ Part.AUnit ∷ Part.Units ∷ [])
 
 abbrev pub primary_step : Lexeme → Move
 primary_step (Lexeme.number _ _) = Move.Take []
 primary_step (Lexeme.name _) = Move.Take (Part.Index ∷ [])
-primary_step (Lexeme.sign sign.OpenParen) = Move.Take (expression_then (Part.Sign sign.CloseParen ∷ []))
+primary_step (Lexeme.sign sign.OpenParen) = Move.Take
+    (expression_then (Part.Sign sign.CloseParen ∷ []))
 primary_step _ = Move.Stop
 
 abbrev pub operand_step : Lexeme → Move
-operand_step (Lexeme.sign s) = cond (is_some (unary_of s)) (Move.Take (Part.Primary ∷ [])) (primary_step (Lexeme.sign s))
+operand_step (Lexeme.sign s) = cond (is_some (unary_of s)) (Move.Take (Part.Primary ∷ []))
+    (primary_step (Lexeme.sign s))
 operand_step token = primary_step token
 
 -- the first operand of expressions, or nothing
@@ -112,13 +119,19 @@ values_step _ = Move.Skip
 
 abbrev pub body_step : Lexeme → Move
 body_step (Lexeme.sign sign.CloseBrace) = Move.Take []
-body_step (Lexeme.name _) = Move.Take (Part.Index ∷ Part.Sign sign.Assign ∷ expression_then (Part.Sign sign.Semicolon ∷ Part.Body ∷ []))
-body_step (Lexeme.word keyword.Let _) = Move.Take (Part.AName ∷ Part.Sign sign.Assign ∷ expression_then (Part.Sign sign.Semicolon ∷ Part.Body ∷ []))
-body_step (Lexeme.word keyword.If _) = Move.Take (expression_then (block_then (Part.Otherwise ∷ Part.Body ∷ [])))
-body_step (Lexeme.word keyword.Repeat _) = Move.Take (Part.AName ∷ Part.Sign sign.Below ∷ Part.ANumber ∷ block_then (Part.Body ∷ []))
-body_step (Lexeme.word keyword.Next _) = Move.Take (Part.AName ∷ Part.Sign sign.Semicolon ∷ Part.Body ∷ [])
+body_step (Lexeme.name _) = Move.Take (Part.Index ∷ Part.Sign sign.Assign
+    ∷ expression_then (Part.Sign sign.Semicolon ∷ Part.Body ∷ []))
+body_step (Lexeme.word keyword.Let _) = Move.Take (Part.AName ∷ Part.Sign sign.Assign
+    ∷ expression_then (Part.Sign sign.Semicolon ∷ Part.Body ∷ []))
+body_step (Lexeme.word keyword.If _) = Move.Take
+    (expression_then (block_then (Part.Otherwise ∷ Part.Body ∷ [])))
+body_step (Lexeme.word keyword.Repeat _) = Move.Take (Part.AName ∷ Part.Sign sign.Below
+    ∷ Part.ANumber ∷ block_then (Part.Body ∷ []))
+body_step (Lexeme.word keyword.Next _) = Move.Take (Part.AName ∷ Part.Sign sign.Semicolon
+    ∷ Part.Body ∷ [])
 body_step (Lexeme.word keyword.Halt _) = Move.Take (Part.Sign sign.Semicolon ∷ Part.Body ∷ [])
-body_step (Lexeme.word keyword.Give _) = Move.Take (Part.Values ∷ Part.Sign sign.Semicolon ∷ Part.Body ∷ [])
+body_step (Lexeme.word keyword.Give _) = Move.Take (Part.Values ∷ Part.Sign sign.Semicolon
+    ∷ Part.Body ∷ [])
 body_step _ = Move.Stop
 
 -- what a part makes of a token
@@ -133,16 +146,19 @@ step Part.ANumber (Lexeme.number _ _) = Move.Take []
 step Part.ANumber _ = Move.Stop
 step Part.Variables (Lexeme.word keyword.Nv _) = Move.Take (variable_then (Part.Variables ∷ []))
 step Part.Variables _ = Move.Skip
-step Part.Length (Lexeme.sign sign.OpenBracket) = Move.Take (Part.ANumber ∷ Part.Sign sign.CloseBracket ∷ [])
+step Part.Length (Lexeme.sign sign.OpenBracket) =
+    Move.Take (Part.ANumber ∷ Part.Sign sign.CloseBracket ∷ [])
 step Part.Length _ = Move.Skip
 step Part.Given (Lexeme.sign sign.Assign) = Move.Take (Part.Init ∷ [])
 step Part.Given _ = Move.Skip
 step Part.Init (Lexeme.number _ _) = Move.Take []
-step Part.Init (Lexeme.sign sign.OpenBrace) = Move.Take (Part.ANumber ∷ Part.Numbers ∷ Part.Sign sign.CloseBrace ∷ [])
+step Part.Init (Lexeme.sign sign.OpenBrace) =
+    Move.Take (Part.ANumber ∷ Part.Numbers ∷ Part.Sign sign.CloseBrace ∷ [])
 step Part.Init _ = Move.Stop
 step Part.Numbers (Lexeme.sign sign.Comma) = Move.Take (Part.ANumber ∷ Part.Numbers ∷ [])
 step Part.Numbers _ = Move.Skip
-step Part.Buffer (Lexeme.word keyword.Buffer _) = Move.Take (Part.ANumber ∷ Part.Sign sign.Semicolon ∷ [])
+step Part.Buffer (Lexeme.word keyword.Buffer _) =
+    Move.Take (Part.ANumber ∷ Part.Sign sign.Semicolon ∷ [])
 step Part.Buffer _ = Move.Skip
 step Part.Events (Lexeme.word keyword.Event _) = Move.Take (event_then (Part.Events ∷ []))
 step Part.Events _ = Move.Skip
@@ -154,7 +170,8 @@ step Part.AUnit (Lexeme.word keyword.Task _) = Move.Take (task_then [])
 step Part.AUnit (Lexeme.word keyword.Transaction _) = Move.Take (transaction_then [])
 step Part.AUnit _ = Move.Stop
 step Part.Units (Lexeme.word keyword.Task _) = Move.Take (task_then (Part.Units ∷ []))
-step Part.Units (Lexeme.word keyword.Transaction _) = Move.Take (transaction_then (Part.Units ∷ []))
+step Part.Units (Lexeme.word keyword.Transaction _) =
+    Move.Take (transaction_then (Part.Units ∷ []))
 step Part.Units _ = Move.Skip
 step Part.Members (Lexeme.word keyword.Task _) = Move.Take (task_then (Part.Members ∷ []))
 step Part.Members _ = Move.Skip
@@ -166,9 +183,11 @@ step Part.More (Lexeme.sign sign.Comma) = Move.Take (expression_then (Part.More 
 step Part.More _ = Move.Skip
 step Part.Operand token = operand_step token
 step Part.Primary token = primary_step token
-step Part.Index (Lexeme.sign sign.OpenBracket) = Move.Take (expression_then (Part.Sign sign.CloseBracket ∷ []))
+step Part.Index (Lexeme.sign sign.OpenBracket) =
+    Move.Take (expression_then (Part.Sign sign.CloseBracket ∷ []))
 step Part.Index _ = Move.Skip
-step (Part.Ops k) (Lexeme.sign s) = cond (is_some (operator_of s)) (Move.Take (Part.Operand ∷ Part.Ops (k + 1) ∷ [])) Move.Skip
+step (Part.Ops k) (Lexeme.sign s) = cond (is_some (operator_of s))
+    (Move.Take (Part.Operand ∷ Part.Ops (k + 1) ∷ [])) Move.Skip
 step (Part.Ops k) _ = Move.Skip
 
 -- the part may be left out where the tokens end
@@ -200,7 +219,8 @@ fed below k full (Move.Take new) = Some (full, new ++ k)
 fed below k full Move.Skip = below
 fed below k full Move.Stop = None
 
--- what is still to come behind a token, and whether the token is an operator too many; none where nothing goes on with it
+-- what is still to come behind a token, and whether the token is an operator too many; none where
+-- nothing goes on with it
 abbrev pub feed : List Part → Lexeme → Option (Bool × List Part)
 feed [] token = None
 feed (x ∷ k) token = fed (feed k token) k (is_full x) (step x token)
@@ -219,13 +239,16 @@ abbrev pub judged : ℕ → Bool → (List Part → Verdict) → Option (Bool ×
 judged at deep next None = Verdict.Bad at
 judged at deep next (Some (full, k)) = cond (deep || full) (Verdict.Deep at) (next k)
 
--- the first fault of a list, where the number of its first token, the number of open brackets and what is to come are given
+-- the first fault of a list, where the number of its first token, the number of open brackets and
+-- what is to come are given
 abbrev pub verdict : ℕ → ℕ → List Lexeme → List Part → Verdict
 verdict at depth [] k = cond (are_optional k) Verdict.Fine (Verdict.Bad at)
 verdict at depth (token ∷ list) k =
-    judged at (opens token && nat_eq depth most_open) (λ j. verdict (at + 1) (shift depth token) list j) (feed k token)
+    judged at (opens token && nat_eq depth most_open)
+    (λ j. verdict (at + 1) (shift depth token) list j) (feed k token)
 
--- where reading stands: the tokens left, the number of the first of them, and how many brackets are open
+-- where reading stands: the tokens left, the number of the first of them, and how many brackets
+-- are open
 pub record Spot : Type 0 where
   pub rest : List Lexeme
   pub at : ℕ
@@ -248,8 +271,10 @@ has_memory _ = true
 abbrev pub seen : ParseFault → Verdict → Verdict
 seen refused verdict = cond (has_memory refused) verdict Verdict.Fine
 
--- What a reading did that was to read the parts xs: it went up to where the parts ys are still to come, or told the fault.
-abbrev pub Gives : {X : Type 0} → Spot → List Part → Spot → (X → List Part) → Result X ParseFault → Type 0
+-- What a reading did that was to read the parts xs: it went up to where the parts ys are still to
+-- come, or told the fault.
+abbrev pub Gives : {X : Type 0} → Spot → List Part → Spot → (X → List Part) → Result X ParseFault →
+    Type 0
 Gives old xs new ys result =
     MatchResult result
     (λ x. (k : List Part) → judge old (xs ++ k) ≡ judge new (ys x ++ k))

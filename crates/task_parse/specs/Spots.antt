@@ -76,7 +76,9 @@ Below n list = MatchOption (first_operator list) (Unit {0}) (λ op. level op < n
 abbrev pub moved : Spot → ℕ → Spot
 moved spot depth = record { rest = tail spot.rest; at = spot.at + 1; depth = depth }
 
--- What a reading did that was to read the parts up to the end of the tokens: it read them all, or told the fault.
+-- What a reading did that was to read the parts up to the end of the tokens: it read them all, or
+-- told the fault.
 abbrev pub Ends : {X : Type 0} → Spot → List Part → Result X ParseFault → Type 0
 Ends old parts result =
-    MatchResult result (λ _. judge old parts ≡ Verdict.Fine) (λ refused. seen refused (judge old parts) ≡ told refused)
+    MatchResult result (λ _. judge old parts ≡ Verdict.Fine)
+    (λ refused. seen refused (judge old parts) ≡ told refused)

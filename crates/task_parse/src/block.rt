@@ -90,7 +90,8 @@ fn otherwise(alloc: Global, cursor: &mut Cursor<'_>) -> Result<Option<Items<Stmt
 #[cycle(block)]
 fn repetition(alloc: Global, cursor: &mut Cursor<'_>) -> Result<Stmt, ParseFault>
     ensures { HasRead Form.Statement
-        (Part.Word keyword.Repeat ∷ Part.AName ∷ Part.Sign sign.Below ∷ Part.ANumber ∷ block_then [])
+        (Part.Word keyword.Repeat ∷ Part.AName ∷ Part.Sign sign.Below ∷ Part.ANumber
+        ∷ block_then [])
         cursor.old cursor.new result }
 {
     cursor.word(Keyword::Repeat)?;

@@ -16,8 +16,8 @@ use std::marker::Model;
 use task_lex::{Keyword, Symbol, Token, TokenKind};
 use task_syntax::{Name, NameText, Number};
 
-/// Reads the tokens of a source one after another. A contract sees what is left to read, the number of the token
-/// that comes next, and how many brackets are open.
+/// Reads the tokens of a source one after another. A contract sees what is left to read, the
+/// number of the token that comes next, and how many brackets are open.
 #[derive(Drop)]
 pub(crate) struct Cursor<'a> {
     source: &'a [u8],
@@ -236,7 +236,8 @@ impl<'a> Cursor<'a> {
 
     /// Reads a number.
     pub(crate) fn number(&mut self) -> Result<Number, ParseFault>
-        ensures { HasToken (λ n. Lexeme.number n.value n.at) Part.ANumber self.old self.new result }
+        ensures { HasToken (λ n. Lexeme.number n.value n.at) Part.ANumber self.old self.new
+            result }
     {
         match self.left {
             [token, ..] => match token.kind {

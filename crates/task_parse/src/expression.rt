@@ -31,8 +31,8 @@ pub(crate) fn expression(alloc: Global, cursor: &mut Cursor<'_>) -> Result<Expr,
     Ok(value)
 }
 
-/// Reads an expression whose operators bind at least so tight, behind so many operators that it goes on from. With
-/// it comes how many operators there are then.
+/// Reads an expression whose operators bind at least so tight, behind so many operators that it
+/// goes on from. With it comes how many operators there are then.
 #[cycle(expression)]
 fn level(
     alloc: Global,

@@ -19,7 +19,8 @@ use task_syntax::{Expr, Stmt};
 /// `place = e;`
 pub(crate) fn assignment(alloc: Global, cursor: &mut Cursor<'_>) -> Result<Stmt, ParseFault>
     ensures { HasRead Form.Statement
-        (Part.AName ∷ Part.Index ∷ Part.Sign sign.Assign ∷ expression_then (Part.Sign sign.Semicolon ∷ []))
+        (Part.AName ∷ Part.Index ∷ Part.Sign sign.Assign
+        ∷ expression_then (Part.Sign sign.Semicolon ∷ []))
         cursor.old cursor.new result }
 {
     let place = place(alloc, cursor)?;
@@ -32,7 +33,8 @@ pub(crate) fn assignment(alloc: Global, cursor: &mut Cursor<'_>) -> Result<Stmt,
 /// `let name = e;`
 pub(crate) fn local(alloc: Global, cursor: &mut Cursor<'_>) -> Result<Stmt, ParseFault>
     ensures { HasRead Form.Statement
-        (Part.Word keyword.Let ∷ Part.AName ∷ Part.Sign sign.Assign ∷ expression_then (Part.Sign sign.Semicolon ∷ []))
+        (Part.Word keyword.Let ∷ Part.AName ∷ Part.Sign sign.Assign
+        ∷ expression_then (Part.Sign sign.Semicolon ∷ []))
         cursor.old cursor.new result }
 {
     cursor.word(Keyword::Let)?;

@@ -144,7 +144,8 @@ fn the_first_misplaced_token_is_told(rt: HostRuntime) {
     }
 }
 
-/// A statement of a head, a middle within so many of the texts before and after it, and a tail; and the fault that is told of it.
+/// A statement of a head, a middle within so many of the texts before and after it, and a tail;
+/// and the fault that is told of it.
 type Nesting = (
     &'static str,
     &'static str,

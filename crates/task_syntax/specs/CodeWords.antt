@@ -43,7 +43,8 @@ condition_words condition block (Some other) = condition + 2 + block + 2 + other
 abbrev pub statement_words_step : Stmt-F ℕ → ℕ
 statement_words_step (Stmt-F.Let name e) = expression_words e + 2
 statement_words_step (Stmt-F.Assign place e) = access_words place + expression_words e
-statement_words_step (Stmt-F.If condition block other) = condition_words (expression_words condition) (sum block) (sum_of other)
+statement_words_step (Stmt-F.If condition block other) =
+    condition_words (expression_words condition) (sum block) (sum_of other)
 statement_words_step (Stmt-F.Repeat name count block) = 20 + sum block
 statement_words_step (Stmt-F.Next name) = 2
 statement_words_step (Stmt-F.Halt at) = 1

@@ -1,5 +1,5 @@
--- The cost of a body: the machine steps that it takes at most. Each instruction is one step, and a store to a variable
--- counts 3.
+-- The cost of a body: the machine steps that it takes at most. Each instruction is one step, and a
+-- store to a variable counts 3.
 use Rattle.std.specs.Prelude.{ℕ, ◌+◌, ◌*◌, List, map, sum, max, Option, Some, None}
 use Rattle.task_syntax.specs.declared.program.Program.{Program}
 use Rattle.task_syntax.specs.declared.expression.Expr.{Expr}
@@ -42,7 +42,8 @@ abbrev pub plain_store_cost : Option Words → ℕ
 plain_store_cost None = 1
 plain_store_cost (Some words) = 3
 
--- a condition, one step that looks at it, and the greater of the blocks; the block before an `else` jumps over the other
+-- a condition, one step that looks at it, and the greater of the blocks; the block before an
+-- `else` jumps over the other
 abbrev pub condition_cost : ℕ → ℕ → Option ℕ → ℕ
 condition_cost condition block None = condition + 1 + block
 condition_cost condition block (Some other) = condition + 1 + max (block + 1) other
@@ -75,8 +76,10 @@ module _ (program : Program) where
   -- one layer of a statement
   abbrev pub statement_cost_step : Stmt-F ℕ → ℕ
   statement_cost_step (Stmt-F.Let name e) = expression_cost e + 1
-  statement_cost_step (Stmt-F.Assign place e) = index_cost place + expression_cost e + store_cost place
-  statement_cost_step (Stmt-F.If condition block other) = condition_cost (expression_cost condition) (sum block) (sum_of other)
+  statement_cost_step (Stmt-F.Assign place e) =
+      index_cost place + expression_cost e + store_cost place
+  statement_cost_step (Stmt-F.If condition block other) =
+      condition_cost (expression_cost condition) (sum block) (sum_of other)
   statement_cost_step (Stmt-F.Repeat name count block) = loop_cost count (sum block)
   statement_cost_step (Stmt-F.Next name) = 1
   statement_cost_step (Stmt-F.Halt at) = 1

@@ -1,5 +1,6 @@
--- The course of a body: what it does next, on whatever memory it runs. It ends with an answer, or it reads a variable
--- word and goes on by what stands there, or it writes one and goes on. What it does on a store follows from its course.
+-- The course of a body: what it does next, on whatever memory it runs. It ends with an answer, or
+-- it reads a variable word and goes on by what stands there, or it writes one and goes on. What it
+-- does on a store follows from its course.
 use Rattle.std.specs.Prelude.{ℕ, ◌==◌, List, [], ◌∷◌, if◌then◌else◌}
 use Rattle.coati_word.specs.declared.reading.Reading.{Reading}
 
@@ -31,8 +32,10 @@ pub data Access : Type 0 where
 -- the accesses of a course on a store, in their order
 abbrev pub accesses : {A : Type 0} → Course A → Store → List Access
 accesses (Course.ends result) store = []
-accesses (Course.reads word go_on) store = Access.read word (store word) ∷ accesses (go_on (store word)) store
-accesses (Course.writes word value rest) store = Access.wrote word value ∷ accesses rest (put word value store)
+accesses (Course.reads word go_on) store = Access.read word (store word)
+    ∷ accesses (go_on (store word)) store
+accesses (Course.writes word value rest) store =
+    Access.wrote word value ∷ accesses rest (put word value store)
 
 -- what a course ends with on a store
 abbrev pub answer : {A : Type 0} → Course A → Store → A

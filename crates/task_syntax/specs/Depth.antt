@@ -8,7 +8,8 @@ use Rattle.task_syntax.specs.declared.statement.Stmt.{Stmt}
 use Rattle.task_syntax.specs.declared.statement.Stmt.TheOpen.{Stmt-F}
 use Rattle.task_syntax.specs.declared.statement.Stmt.TheFolds.{fold-Stmt}
 
--- what reading needs at a place whose index has this depth; a place without an index takes the word itself
+-- what reading needs at a place whose index has this depth; a place without an index takes the
+-- word itself
 abbrev pub read_depth : Option ℕ → ℕ
 read_depth None = 1
 read_depth (Some index) = index
@@ -57,7 +58,8 @@ stacked below (depth ∷ more) = max (below + depth) (stacked (below + 1) more)
 abbrev pub statement_depth_step : Stmt-F ℕ → ℕ
 statement_depth_step (Stmt-F.Let name e) = expression_depth e
 statement_depth_step (Stmt-F.Assign place e) = store_depth (index_depth place) (expression_depth e)
-statement_depth_step (Stmt-F.If condition block other) = max (expression_depth condition) (max (greatest block) (greatest_otherwise other))
+statement_depth_step (Stmt-F.If condition block other) =
+    max (expression_depth condition) (max (greatest block) (greatest_otherwise other))
 statement_depth_step (Stmt-F.Repeat name count block) = max 2 (greatest block)
 statement_depth_step (Stmt-F.Next name) = 0
 statement_depth_step (Stmt-F.Halt at) = 0

@@ -1,5 +1,6 @@
--- Events. The top half runs on the posting's argument and gives a message; the bottom half runs on the message's words.
--- Only the bottom half sees the variables, and an event doesn't move the place.
+-- Events. The top half runs on the posting's argument and gives a message; the bottom half runs on
+-- the message's words. Only the bottom half sees the variables, and an event doesn't move the
+-- place.
 use Rattle.std.specs.Prelude.{ℕ, List, [], ◌∷◌, Option, Some, None, slice_get}
 use Rattle.coati_word.specs.declared.ending.Ending.{Ending}
 use Rattle.coati_word.specs.declared.ending.Ending.TheVariants.{Next, Halt, Done, Given}
@@ -21,7 +22,8 @@ message_of (Given words) = words
 abbrev pub with_words : List Name → List ℕ → Locals → Locals
 with_words [] words locals = locals
 with_words (name ∷ names) [] locals = locals
-with_words (name ∷ names) (word ∷ words) locals = with_words names words (with_local name.text word locals)
+with_words (name ∷ names) (word ∷ words) locals =
+    with_words names words (with_local name.text word locals)
 
 -- a store for a top half, which looks at none
 abbrev pub blank_store : Store
@@ -29,16 +31,19 @@ blank_store word = 0
 
 -- what the top half of an event gives on an argument
 abbrev pub message : Program → Event → ℕ → List ℕ
-message program event argument = message_of (answer (body program event.top (with_local event.argument.text argument no_locals)) blank_store)
+message program event argument = message_of (answer
+    (body program event.top (with_local event.argument.text argument no_locals)) blank_store)
 
 -- the course of the bottom half on a message
 abbrev pub bottom_course : Program → Event → List ℕ → Course Ending
-bottom_course program event words = body program event.bottom (with_words event.params words no_locals)
+bottom_course program event words = body program event.bottom
+    (with_words event.params words no_locals)
 
 -- the bottom half of an event on what its top half gives; an event that isn't there does nothing
 abbrev pub course_of : Program → Option Event → ℕ → Course Ending
 course_of program None argument = Course.ends Done
-course_of program (Some event) argument = bottom_course program event (message program event argument)
+course_of program (Some event) argument = bottom_course program event
+    (message program event argument)
 
 -- the course of the event of a number on an argument
 abbrev pub event_course : Program → ℕ → ℕ → Course Ending

@@ -1,5 +1,6 @@
--- The course of an expression: operands left side first, an index before its element. Each evaluation of a variable word
--- reads it; locals are not in memory. A name that is no variable's is a local.
+-- The course of an expression: operands left side first, an index before its element. Each
+-- evaluation of a variable word reads it; locals are not in memory. A name that is no variable's
+-- is a local.
 use Rattle.std.specs.Prelude.{ℕ, ◌+◌, List, [], ◌∷◌, Option, Some, None, if◌then◌else◌}
 use Rattle.std.specs.Str.{bytes_eq}
 use Rattle.coati_word.specs.Operator.{operator_value, unary_value, remainder}
@@ -37,7 +38,8 @@ plain_aim name (Some words) = Aim.in_word words.first
 -- an index is taken modulo the array's length
 abbrev pub item_aim : List ℕ → ℕ → Option Words → Aim
 item_aim name index None = Aim.named name
-item_aim name index (Some words) = Aim.in_word (words.first + remainder index (count_of words.length))
+item_aim name index (Some words) = Aim.in_word (words.first
+    + remainder index (count_of words.length))
 
 -- what stands at a place
 abbrev pub value_at : Locals → Aim → Course ℕ
@@ -49,13 +51,15 @@ module _ (program : Program) where
   abbrev pub expression_step : Expr-F (Locals → Course ℕ) (Locals → Course Aim) → Locals → Course ℕ
   expression_step (Expr-F.Num number) locals = Course.ends number
   expression_step (Expr-F.Get place) locals = chain (place locals) (value_at locals)
-  expression_step (Expr-F.One op operand) locals = chain (operand locals) (λ a. Course.ends (unary_value op a))
+  expression_step (Expr-F.One op operand) locals =
+      chain (operand locals) (λ a. Course.ends (unary_value op a))
   expression_step (Expr-F.Two op left right) locals =
       chain (left locals) (λ a. chain (right locals) (λ b. Course.ends (operator_value op a b)))
 
   -- one layer of a place
   abbrev pub aim_step : Place-F (Locals → Course ℕ) (Locals → Course Aim) → Locals → Course Aim
-  aim_step (Place-F.Plain name) locals = Course.ends (plain_aim name.text (words_of program name.text))
+  aim_step (Place-F.Plain name) locals = Course.ends
+      (plain_aim name.text (words_of program name.text))
   aim_step (Place-F.Item name index) locals =
       chain (index locals) (λ i. Course.ends (item_aim name.text i (words_of program name.text)))
 
@@ -71,7 +75,8 @@ module _ (program : Program) where
   abbrev pub expressions : List Expr → Locals → Course (List ℕ)
   expressions [] locals = Course.ends []
   expressions (first ∷ more) locals =
-      chain (expression first locals) (λ a. chain (expressions more locals) (λ rest. Course.ends (a ∷ rest)))
+      chain (expression first locals) (λ a. chain (expressions more locals)
+      (λ rest. Course.ends (a ∷ rest)))
 
   -- the value of an expression on locals and a store
   abbrev pub value_of : Expr → Locals → Store → ℕ

@@ -1,5 +1,6 @@
--- What the names of a program stand for: its variable words, counted from 0 in the order of declaration, and its tasks,
--- counted from 0 in the order of the text, members of transactions among them.
+-- What the names of a program stand for: its variable words, counted from 0 in the order of
+-- declaration, and its tasks, counted from 0 in the order of the text, members of transactions
+-- among them.
 use Rattle.std.specs.Prelude.{ℕ, ◌+◌, ◌-◌, List, [], ◌∷◌, ◌++◌, length, flat_map, Option, Some, None, replicate, if◌then◌else◌}
 use Rattle.std.specs.Option.{unwrap_or}
 use Rattle.std.specs.Str.{bytes_eq}
@@ -45,7 +46,8 @@ given_values (init.Many values) = values
 
 -- the values of a variable's words at first: those given, and 0 behind them
 abbrev pub first_values : Var → List ℕ
-first_values var = given_values var.init ++ replicate (count_of var.length - length (given_values var.init)) 0
+first_values var = given_values var.init ++ replicate
+    (count_of var.length - length (given_values var.init)) 0
 
 -- the values of all variable words at first
 abbrev pub opening_values : Program → List ℕ
@@ -63,7 +65,8 @@ tasks program = flat_map tasks_of_unit program.units
 -- the number of the task of a name, where the first of these tasks has the number `first`
 abbrev pub task_from : ℕ → List TaskDecl → List ℕ → Option ℕ
 task_from first [] name = None
-task_from first (task ∷ more) name = if bytes_eq task.name.text name then Some first else task_from (first + 1) more name
+task_from first (task ∷ more) name = if bytes_eq task.name.text name then Some first
+    else task_from (first + 1) more name
 
 -- the number of the task of a name, where it is one
 abbrev pub task_of : Program → List ℕ → Option ℕ

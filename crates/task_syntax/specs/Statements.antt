@@ -1,5 +1,6 @@
--- The course of statements and of bodies. The condition of an `if` holds where it isn't 0; a loop runs its block for its
--- name from 0 to its count less 1; `next`, `halt` and `give` end the body, and a bottom half is done behind its last statement.
+-- The course of statements and of bodies. The condition of an `if` holds where it isn't 0; a loop
+-- runs its block for its name from 0 to its count less 1; `next`, `halt` and `give` end the body,
+-- and a bottom half is done behind its last statement.
 use Rattle.std.specs.Prelude.{ℕ, zero, suc, ◌+◌, ◌==◌, List, [], ◌∷◌, map, Option, Some, None, if◌then◌else◌}
 use Rattle.coati_word.specs.declared.ending.Ending.{Ending}
 use Rattle.coati_word.specs.declared.ending.Ending.TheVariants.{Next, Halt, Done, Given}
@@ -33,7 +34,8 @@ in_turn (first ∷ rest) locals = chain (first locals) (unless_out (in_turn rest
 -- the turns that a loop has left, the next of which has the number `turn`
 abbrev pub turns : ℕ → ℕ → List ℕ → Conduct → Conduct
 turns zero turn name block locals = Course.ends (Way.on locals)
-turns (suc left) turn name block locals = chain (block (with_local name turn locals)) (unless_out (turns left (turn + 1) name block))
+turns (suc left) turn name block locals = chain (block (with_local name turn locals))
+    (unless_out (turns left (turn + 1) name block))
 
 -- what is assigned to a place
 abbrev pub assigned : Locals → Aim → ℕ → Course Way
@@ -58,14 +60,22 @@ ending_of (Way.out ending) = Course.ends ending
 module _ (program : Program) where
   -- one layer of a statement, with the conduct of the statements in it
   abbrev pub statement_step : Stmt-F Conduct → Conduct
-  statement_step (Stmt-F.Let name e) locals = chain (expression program e locals) (λ value. Course.ends (Way.on (with_local name.text value locals)))
-  statement_step (Stmt-F.Assign place e) locals = chain (aim program place locals) (λ a. chain (expression program e locals) (assigned locals a))
+  statement_step (Stmt-F.Let name e) locals =
+      chain (expression program e locals) (λ value. Course.ends
+      (Way.on (with_local name.text value locals)))
+  statement_step (Stmt-F.Assign place e) locals =
+      chain (aim program place locals) (λ a. chain (expression program e locals)
+      (assigned locals a))
   statement_step (Stmt-F.If condition block other) locals =
-      chain (expression program condition locals) (λ value. if value == 0 then otherwise other locals else in_turn block locals)
-  statement_step (Stmt-F.Repeat name count block) locals = turns count 0 name.text (in_turn block) locals
-  statement_step (Stmt-F.Next name) locals = Course.ends (Way.out (next_task (task_of program name.text)))
+      chain (expression program condition locals)
+      (λ value. if value == 0 then otherwise other locals else in_turn block locals)
+  statement_step (Stmt-F.Repeat name count block) locals =
+      turns count 0 name.text (in_turn block) locals
+  statement_step (Stmt-F.Next name) locals = Course.ends
+      (Way.out (next_task (task_of program name.text)))
   statement_step (Stmt-F.Halt at) locals = Course.ends (Way.out Halt)
-  statement_step (Stmt-F.Give es at) locals = chain (expressions program es locals) (λ values. Course.ends (Way.out (Given values)))
+  statement_step (Stmt-F.Give es at) locals =
+      chain (expressions program es locals) (λ values. Course.ends (Way.out (Given values)))
 
   -- what a statement does
   abbrev pub statement : Stmt → Conduct

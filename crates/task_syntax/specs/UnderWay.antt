@@ -8,6 +8,7 @@ pub data HasReached {A : Type 0} : Course A → Store → List Access → Course
   reads : (word : ℕ) (go_on : ℕ → Course A) (base : Store) (more : List Access) (rest : Course A) →
       HasReached (go_on (base word)) base more rest →
       HasReached (Course.reads word go_on) base (Access.read word (base word) ∷ more) rest
-  writes : (word value : ℕ) (next : Course A) (base : Store) (more : List Access) (rest : Course A) →
+  writes : (word value : ℕ) (next : Course A) (base : Store) (more : List Access)
+      (rest : Course A) →
       HasReached next (put word value base) more rest →
       HasReached (Course.writes word value next) base (Access.wrote word value ∷ more) rest

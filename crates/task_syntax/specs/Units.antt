@@ -1,5 +1,5 @@
--- Units of tasks. A lone task is a unit. A transaction starts with its first task, goes on with the member that each
--- `next` names, and ends where one halts or names a task outside.
+-- Units of tasks. A lone task is a unit. A transaction starts with its first task, goes on with
+-- the member that each `next` names, and ends where one halts or names a task outside.
 use Rattle.std.specs.Prelude.{ℕ, zero, suc, ◌+◌, ◌==◌, ◌≡◌, List, [], ◌∷◌, ◌++◌, length, replicate, slice_get, Bool, false, Option, Some, None, if◌then◌else◌, option_and_then}
 use Rattle.std.specs.Option.{option_map_or}
 use Rattle.coati_word.specs.declared.ending.Ending.{Ending}
@@ -14,20 +14,25 @@ use Rattle.task_syntax.specs.Names.{tasks}
 use Rattle.task_syntax.specs.Expressions.{no_locals}
 use Rattle.task_syntax.specs.Statements.{body}
 
--- for each task of these units, by number, the number of its transaction, where the first transaction has the number `tx`
+-- for each task of these units, by number, the number of its transaction, where the first
+-- transaction has the number `tx`
 abbrev pub memberships : ℕ → List UnitDecl → List (Option ℕ)
 memberships tx [] = []
 memberships tx (Lone task ∷ more) = None ∷ memberships tx more
-memberships tx (Tx members ∷ more) = replicate (length members.tasks) (Some tx) ++ memberships (tx + 1) more
+memberships tx (Tx members ∷ more) = replicate (length members.tasks) (Some tx)
+    ++ memberships (tx + 1) more
 
 -- the transaction of a task; a lone task has none
 abbrev pub transaction_of : Program → ℕ → Option ℕ
-transaction_of program task = option_and_then (λ tx. tx) (slice_get (memberships 0 program.units) task)
+transaction_of program task = option_and_then (λ tx. tx)
+    (slice_get (memberships 0 program.units) task)
 
--- the place of the first task of a transaction, where the first of these tasks has the number `task`
+-- the place of the first task of a transaction, where the first of these tasks has the number
+-- `task`
 abbrev pub first_from : ℕ → ℕ → List (Option ℕ) → Option ℕ
 first_from tx task [] = None
-first_from tx task (member ∷ more) = if option_map_or (λ x. x == tx) member false then Some task else first_from tx (task + 1) more
+first_from tx task (member ∷ more) = if option_map_or (λ x. x == tx) member false then Some task
+    else first_from tx (task + 1) more
 
 -- the place of the first task of a transaction
 abbrev pub first_task : Program → ℕ → Option ℕ
@@ -53,7 +58,8 @@ statements_of (Some task) = task.body
 abbrev pub task_course : Program → ℕ → Course Ending
 task_course program task = body program (statements_of (slice_get (tasks program) task)) no_locals
 
--- what tasks of a unit did, one after another, how each of them ended, and the place where the last of them leads
+-- what tasks of a unit did, one after another, how each of them ended, and the place where the
+-- last of them leads
 pub record Reached : Type 0 where
   pub done : List Access
   pub endings : List Ending
@@ -63,7 +69,11 @@ pub record Reached : Type 0 where
 abbrev pub task_effect : Program → ℕ → Store → Reached
 task_effect program task store =
     let course = task_course program task in
-    record { done = accesses course store; endings = answer course store ∷ []; place = place_after (answer course store) }
+    record {
+      done = accesses course store;
+      endings = answer course store ∷ [];
+      place = place_after (answer course store);
+    }
 
 -- both are members of one transaction
 abbrev pub is_same : Option ℕ → Option ℕ → Bool
@@ -77,11 +87,16 @@ is_inside program task place = is_same (transaction_of program task) (transactio
 -- one task more, which runs on what those before it left
 abbrev pub followed_by : Reached → Reached → Reached
 followed_by before task =
-    record { done = before.done ++ task.done; endings = before.endings ++ task.endings; place = task.place }
+    record {
+      done = before.done ++ task.done;
+      endings = before.endings ++ task.endings;
+      place = task.place;
+    }
 
 -- what tasks have reached, where the unit of the first of them has ended there
 abbrev pub unless_inside : Program → ℕ → Reached → Option Reached
-unless_inside program task reached = if is_inside program task reached.place then None else Some reached
+unless_inside program task reached = if is_inside program task reached.place then None
+    else Some reached
 
 module _ (program : Program) (task : ℕ) (store : Store) where
   -- the place is inside, so one task more runs
@@ -96,7 +111,8 @@ module _ (program : Program) (task : ℕ) (store : Store) where
   task_and_more zero = Some (task_effect program task store)
   task_and_more (suc more) = option_and_then one_more (task_and_more more)
 
-  -- what the first `count` tasks of a unit do, the first being `task`; none where the unit has ended before
+  -- what the first `count` tasks of a unit do, the first being `task`; none where the unit has
+  -- ended before
   abbrev pub tasks_effect : ℕ → Option Reached
   tasks_effect zero = None
   tasks_effect (suc more) = task_and_more more

@@ -83,7 +83,8 @@ pub fn expressions_only_read()
     ensures { ExpressionsOnlyRead }
 {}
 
-/// Where no array is empty, only the variable words of a program are touched, and no word beyond them matters.
+/// Where no array is empty, only the variable words of a program are touched, and no word beyond
+/// them matters.
 pub fn variables_alone_are_touched()
     ensures expressions { ExpressionsTouchVariables }
     ensures statements { StatementsTouchVariables }
@@ -92,7 +93,8 @@ pub fn variables_alone_are_touched()
     ensures units { UnitsTouchVariables }
 {}
 
-/// The tasks of a unit run one by one, each on what those before it left, until the unit has ended.
+/// The tasks of a unit run one by one, each on what those before it left, until the unit has
+/// ended.
 pub fn units_run_task_by_task()
     ensures tasks { UnitsRunTaskByTask }
     ensures whole_once { UnitsAreWholeOnce }

@@ -5,7 +5,8 @@ use crate::{Name, Number, Stmt};
 use sqlite_items::Items;
 use std::slice;
 
-/// A program: its nonvolatile variables, the size of its buffer where one is declared, its events, and its tasks.
+/// A program: its nonvolatile variables, the size of its buffer where one is declared, its events,
+/// and its tasks.
 #[derive(Debug, Drop)]
 pub struct Program {
     pub vars: Items<Var>,
@@ -30,7 +31,8 @@ pub enum Init {
     Many(Items<u16>),
 }
 
-/// An event: the top half, which sees the posting's argument, and the bottom half, which sees what the top half gives.
+/// An event: the top half, which sees the posting's argument, and the bottom half, which sees what
+/// the top half gives.
 #[derive(Debug, Drop)]
 pub struct Event {
     pub name: Name,

@@ -20,4 +20,5 @@ IsAnswer (Err fault) answer = answer ≡ Err fault
 -- the text is a script or has a first fault
 abbrev pub IsAnswered : Program → List ℕ → Type 0
 IsAnswered program text =
-    ((script : Script) × TraceText program text script) ⊎ ((fault : TraceFault) × FirstFault program text fault)
+    ((script : Script) × TraceText program text script)
+    ⊎ ((fault : TraceFault) × FirstFault program text fault)

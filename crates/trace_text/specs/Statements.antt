@@ -17,16 +17,19 @@ greatest_device = 7
 abbrev pub greatest_argument : ℕ
 greatest_argument = 65535
 
--- the line has the form of this statement: `limit L`, `power P`, `power P times M` or `at T D EVENT A`,
--- where the event has a number if the program has one of this name
+-- the line has the form of this statement: `limit L`, `power P`, `power P times M` or `at T D
+-- EVENT A`, where the event has a number if the program has one of this name
 pub data Says (program : Program) (line : List ℕ) : Statement → Type 0 where
   limit : (limit : ℕ) → fields_of line ≡ codes "limit" ∷ decimal limit ∷ []
       → limit ≤ greatest_number → Says program line (Limit limit)
   power : (period : ℕ) → fields_of line ≡ codes "power" ∷ decimal period ∷ []
       → 1 ≤ period → period ≤ PERIOD_STEPS → Says program line (Power period 1)
-  powers : (period times : ℕ) → fields_of line ≡ codes "power" ∷ decimal period ∷ codes "times" ∷ decimal times ∷ []
-      → 1 ≤ period → period ≤ PERIOD_STEPS → 1 ≤ times → times ≤ greatest_number → Says program line (Power period times)
+  powers : (period times : ℕ) → fields_of line ≡ codes "power" ∷ decimal period ∷ codes "times"
+      ∷ decimal times ∷ []
+      → 1 ≤ period → period ≤ PERIOD_STEPS → 1 ≤ times → times ≤ greatest_number →
+      Says program line (Power period times)
   at : (time device : ℕ) (event : List ℕ) (argument : ℕ)
-      → fields_of line ≡ codes "at" ∷ decimal time ∷ decimal device ∷ event ∷ decimal argument ∷ [] → event ≢ []
+      → fields_of line ≡ codes "at" ∷ decimal time ∷ decimal device ∷ event ∷ decimal argument
+      ∷ [] → event ≢ []
       → time ≤ greatest_number → device ≤ greatest_device → argument ≤ greatest_argument
       → Says program line (At time device (event_of program event) argument)

@@ -1,5 +1,5 @@
--- Which script a text is, and why a text is none. Each line is read where those before it lead: to no
--- script before the line of the limit, and then to the script that they tell.
+-- Which script a text is, and why a text is none. Each line is read where those before it lead: to
+-- no script before the line of the limit, and then to the script that they tell.
 use Rattle.std.specs.Prelude.{ℕ, ◌≡◌, ◌≢◌, ◌<◌, ◌≤◌, ◌+◌, ◌*◌, ◌==◌, Bool, true, false, ◌&&◌, not, List, [], ◌∷◌, ◌++◌, Option, Some, None, codes, filter, length, nat_le, replicate, unwrap_or}
 use Rattle.std.specs.Option.{is_some}
 use Rattle.std.specs.List.{All}
@@ -24,9 +24,17 @@ blank = record { limit = 0; power = []; postings = [] }
 -- the script with what one more statement tells
 abbrev pub with_statement : Script → Statement → Script
 with_statement script (Limit limit) = record script { limit = limit }
-with_statement script (Power period times) = record script { power = script.power ++ replicate times period }
+with_statement script (Power period times) = record script {
+  power = script.power
+      ++ replicate times period;
+}
 with_statement script (At time device event argument) = record script {
-  postings = script.postings ++ record { time = time; device = device; event = unwrap_or event 0; argument = argument } ∷ [];
+  postings = script.postings ++ record {
+    time = time;
+    device = device;
+    event = unwrap_or event 0;
+    argument = argument;
+  } ∷ [];
 }
 
 -- the script behind a statement, where the lines before it lead here
@@ -45,8 +53,8 @@ last_time [] = 0
 last_time (posting ∷ []) = posting.time
 last_time (posting ∷ next ∷ more) = last_time (next ∷ more)
 
--- the statement may stand here: the limit first and once, then the periods, then the postings in the
--- order of their times
+-- the statement may stand here: the limit first and once, then the periods, then the postings in
+-- the order of their times
 abbrev pub is_in_order : Option Script → Statement → Bool
 is_in_order None (Limit limit) = true
 is_in_order None statement = false
@@ -77,7 +85,8 @@ pub record IsPosting (program : Program) (posting : Posting) : Type 0 where
   pub event : posting.event < length program.events
   pub argument : posting.argument ≤ greatest_argument
 
--- its periods and postings are such that a trace of the program may tell them, and times never fall
+-- its periods and postings are such that a trace of the program may tell them, and times never
+-- fall
 pub record IsScriptFor (program : Program) (script : Script) : Type 0 where
   pub periods : All (λ period. (1 ≤ period) × (period ≤ PERIOD_STEPS)) script.power
   pub postings : All (IsPosting program) script.postings
@@ -106,7 +115,8 @@ pub record IsTooMuch (program : Program) (told : Option Script) (line : List ℕ
   pub much : is_within program (script_behind told statement) ≡ false
 
 -- the line is not refused, and this is the script behind it
-pub record Tells (program : Program) (told : Option Script) (line : List ℕ) (script : Script) : Type 0 where
+pub record Tells (program : Program) (told : Option Script) (line : List ℕ) (script : Script)
+    : Type 0 where
   pub statement : Statement
   pub says : Says program line statement
   pub known : is_known statement ≡ true
@@ -119,8 +129,10 @@ pub data Leads (program : Program) : Option Script → List (List ℕ) → Optio
   nothing : (told : Option Script) → Leads program told [] told
   quiet : (told : Option Script) (line : List ℕ) (more : List (List ℕ)) (last : Option Script)
       → is_quiet line ≡ true → Leads program told more last → Leads program told (line ∷ more) last
-  said : (told : Option Script) (line : List ℕ) (script : Script) (more : List (List ℕ)) (last : Option Script)
-      → is_quiet line ≡ false → Tells program told line script → Leads program (Some script) more last
+  said : (told : Option Script) (line : List ℕ) (script : Script) (more : List (List ℕ))
+      (last : Option Script)
+      → is_quiet line ≡ false → Tells program told line script →
+      Leads program (Some script) more last
       → Leads program told (line ∷ more) last
 
 -- the text is this script
@@ -134,7 +146,8 @@ said_lines lines = filter (λ line. not (is_quiet line)) lines
 -- no line says something, or the first one that does has another first word than `limit`
 abbrev pub LacksLimit : List (List ℕ) → Type 0
 LacksLimit lines =
-    (line : List ℕ) (more : List (List ℕ)) → said_lines lines ≡ line ∷ more → first_word line ≢ codes "limit"
+    (line : List ℕ) (more : List (List ℕ)) → said_lines lines ≡ line ∷ more →
+    first_word line ≢ codes "limit"
 
 -- the line of this number, counted from 1, is the first that is refused, and this is why
 pub record FaultAt (program : Program) (lines : List (List ℕ)) (number : ℕ)

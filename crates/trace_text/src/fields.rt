@@ -9,7 +9,8 @@ use std::marker::Model;
 /// Goes over the fields of a line. A contract sees the list of the fields that are left.
 #[derive(Drop)]
 pub(crate) struct Fields<'a> {
-    /// What stands behind the last field that was taken, which is the line's last where there is none.
+    /// What stands behind the last field that was taken, which is the line's last where there is
+    /// none.
     rest: Option<&'a [u8]>,
 }
 

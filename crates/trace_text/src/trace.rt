@@ -14,14 +14,15 @@ use std::alloc::Global;
 use task_check::Checked;
 use task_cost::bounds;
 
-/// Reads a trace: the script of a run of the program. A text that is none is refused with its first
-/// fault.
+/// Reads a trace: the script of a run of the program. A text that is none is refused with its
+/// first fault.
 pub fn read_trace(alloc: Global, checked: &Checked, text: &[u8]) -> Result<Script, TraceFault>
     requires { length text.now < 2 ^ 31 }
     ensures script { IfOk result (TraceText checked.now text.now) }
     ensures fault { IfErr result (Explains checked.now text.now) }
 
-    // A text that is a script is read as that script, and one with a first fault is refused with it.
+    // A text that is a script is read as that script, and one with a first fault is refused with
+    // it.
     ensures scripts { (script : Script) → TraceText checked.now text.now script
         → IsAnswer result (Ok script) }
     ensures faults { (fault : TraceFault) → FirstFault checked.now text.now fault

@@ -7,8 +7,8 @@ use Rattle.nv_memory.specs.Words.{attempt_flag, tx_flag, tx_flag_seat}
 use Rattle.nv_memory.specs.Logs.{index_in, length_in, log_value, number_in, pair_value_in, task_log, tx_log}
 use Rattle.tx_buffer.specs.Next.{changes_below}
 
--- what makes a value stand in the transaction log, by the place of its word's pair there: the value
--- is replaced; else a pair is added, its length last
+-- what makes a value stand in the transaction log, by the place of its word's pair there: the
+-- value is replaced; else a pair is added, its length last
 abbrev pub store_changes : State → (word value : ℕ) → Option ℕ → List Change
 store_changes s word value (Some at) = set_to (tx_log.value at) value ∷ []
 store_changes s word value None =

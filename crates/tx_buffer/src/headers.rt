@@ -3,8 +3,8 @@ ghost use Rattle.tx_buffer.specs.Next.{IsNext, are_headers, header_changes};
 
 use nv_memory::{Image, Write};
 
-/// The first of several writes of header words whose word doesn't stand yet. None exactly where all
-/// stand.
+/// The first of several writes of header words whose word doesn't stand yet. None exactly where
+/// all stand.
 pub fn header_write(image: &Image, writes: &[Write]) -> Option<Write>
     requires { are_headers writes.now ≡ true }
     ensures { IsNext image.now (header_changes writes.now) result }

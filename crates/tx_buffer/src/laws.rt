@@ -1,4 +1,5 @@
-//! What follows from the definitions: each function's contract is a law, and its body does nothing.
+//! What follows from the definitions: each function's contract is a law, and its body does
+//! nothing.
 
 ghost use Rattle.tx_buffer.specs.Keeps.{MergesEndMerged, MergesKeepMerged};
 

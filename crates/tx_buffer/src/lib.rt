@@ -1,5 +1,5 @@
-//! What a transaction keeps over cuts of power: its log and flags, and how a task's log and flags go
-//! into them, write by write.
+//! What a transaction keeps over cuts of power: its log and flags, and how a task's log and flags
+//! go into them, write by write.
 #![tactic(auto)]
 
 mod clear;

@@ -47,7 +47,8 @@ fn pair_write(image: &Image) -> Option<Write>
     None
 }
 
-// The next write of a pair that the transaction log gets: its word, its value, and then the length.
+// The next write of a pair that the transaction log gets: its word, its value, and then the
+// length.
 fn pair_added(image: &Image, word: u16, value: u16) -> Write
     requires range { InRange (state image.now) }
     requires word { word < image.now.n }

@@ -1,5 +1,5 @@
--- The code of a program: its bodies, tasks by number, then for each event its top half and its bottom half. Their words
--- stand one body after another.
+-- The code of a program: its bodies, tasks by number, then for each event its top half and its
+-- bottom half. Their words stand one body after another.
 use Rattle.std.specs.Prelude.{ℕ, ◌≡◌, ◌+◌, ◌-◌, ◌*◌, ◌<◌, ◌≤◌, List, [], ◌∷◌, ◌++◌, length, take, drop, slice_index_or}
 use Rattle.std.specs.List.{concat}
 use Rattle.task_syntax.specs.declared.body.BodyId.{BodyId}
@@ -42,7 +42,8 @@ entry_of code body = length (concat (take (number_of code.tasks body) code.bodie
 -- the bodies among words, by the place behind each of them; the first begins at `from`
 abbrev pub pieces : ℕ → List ℕ → List ℕ → List (List ℕ)
 pieces from [] words = []
-pieces from (end ∷ ends) words = take (end - from) words ∷ pieces end ends (drop (end - from) words)
+pieces from (end ∷ ends) words = take (end - from) words
+    ∷ pieces end ends (drop (end - from) words)
 
 -- these places rise from `from` to the last of them
 abbrev pub RisesTo : ℕ → List ℕ → ℕ → Type 0

@@ -8,4 +8,5 @@ use Rattle.word_code.specs.Code.{Bodies, HasBody, body_words, entry_of}
 abbrev pub BodiesStandAtTheirEntry : Type 0
 BodiesStandAtTheirEntry =
     (code : Bodies) (body : BodyId) → HasBody code body →
-    slice_range (concat code.bodies) (entry_of code body) (entry_of code body + length (body_words code body)) ≡ body_words code body
+    slice_range (concat code.bodies) (entry_of code body) (entry_of code body
+    + length (body_words code body)) ≡ body_words code body

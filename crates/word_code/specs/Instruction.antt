@@ -1,5 +1,5 @@
--- Instructions as words: an opcode, and its operand words behind it. No instruction starts where the word is no opcode,
--- an operand word is missing, or an operand breaks its range.
+-- Instructions as words: an opcode, and its operand words behind it. No instruction starts where
+-- the word is no opcode, an operand word is missing, or an operand breaks its range.
 use Rattle.std.specs.Prelude.{ℕ, ◌+◌, ◌-◌, ◌==◌, ◌≤◌, ◌<◌, nat_lt, nat_le, Bool, true, if◌then◌else◌, List, [], ◌∷◌, length, slice_get, Option, Some, None}
 use Rattle.coati_word.specs.declared.operator.Op.{Op}
 use Rattle.coati_word.specs.declared.operator.Op.TheVariants as op
@@ -11,7 +11,8 @@ use Rattle.word_code.specs.declared.instruction.Instr.TheVariants.{Push, GetL, S
 -- the operators by their numbers
 abbrev pub binary_operators : List Op
 binary_operators =
-    op.Or ∷ op.Xor ∷ op.And ∷ op.Eq ∷ op.Ne ∷ op.Lt ∷ op.Le ∷ op.Gt ∷ op.Ge ∷ op.Shl ∷ op.Shr ∷ op.Add ∷ op.Sub ∷ op.Mul ∷ op.Div ∷ op.Rem ∷ []
+    op.Or ∷ op.Xor ∷ op.And ∷ op.Eq ∷ op.Ne ∷ op.Lt ∷ op.Le ∷ op.Gt ∷ op.Ge ∷ op.Shl ∷ op.Shr
+    ∷ op.Add ∷ op.Sub ∷ op.Mul ∷ op.Div ∷ op.Rem ∷ []
 
 abbrev pub unary_operators : List Op1
 unary_operators = op1.Neg ∷ op1.Inv ∷ op1.Zero ∷ []
@@ -63,7 +64,8 @@ encoded (One o) = (48 + unary_number o) ∷ []
 abbrev pub width : Instr → ℕ
 width instr = length (encoded instr)
 
--- its operands are in their ranges: there are 32 locals, no array is empty, and a message has at most four words
+-- its operands are in their ranges: there are 32 locals, no array is empty, and a message has at
+-- most four words
 abbrev pub IsEncodable : Instr → Type 0
 IsEncodable (GetL i) = i < 32
 IsEncodable (SetL i) = i < 32

@@ -5,7 +5,8 @@ use Rattle.word_code.specs.Instruction.{encoded, width, IsEncodable, decoded}
 
 -- the words of an instruction are decoded to it, whatever follows
 abbrev pub EncodedIsDecoded : Type 0
-EncodedIsDecoded = (instr : Instr) (more : List ℕ) → IsEncodable instr → decoded (encoded instr ++ more) ≡ Some (instr, width instr)
+EncodedIsDecoded = (instr : Instr) (more : List ℕ) → IsEncodable instr →
+    decoded (encoded instr ++ more) ≡ Some (instr, width instr)
 
 -- words begin with those of an instruction, which has so many
 pub record BeginsWith (words : List ℕ) (instr : Instr) (count : ℕ) : Type 0 where
@@ -15,7 +16,8 @@ pub record BeginsWith (words : List ℕ) (instr : Instr) (count : ℕ) : Type 0 
 
 -- nothing else is decoded
 abbrev pub DecodedIsEncoded : Type 0
-DecodedIsEncoded = (words : List ℕ) (instr : Instr) (count : ℕ) → decoded words ≡ Some (instr, count) → BeginsWith words instr count
+DecodedIsEncoded = (words : List ℕ) (instr : Instr) (count : ℕ) →
+    decoded words ≡ Some (instr, count) → BeginsWith words instr count
 
 -- the words of an instruction, of which there are so many, stand at a place
 pub record StandsAt (words : List ℕ) (at : ℕ) (instr : Instr) (count : ℕ) : Type 0 where

@@ -1,6 +1,7 @@
--- What one instruction does. Besides the memory the machine has a place in its body, operands and locals, and on these
--- alone each instruction makes one move: it goes on at once, or with a variable word that it loads, or after a store, or
--- it ends the body. So one definition serves each memory, and also "whatever is loaded".
+-- What one instruction does. Besides the memory the machine has a place in its body, operands and
+-- locals, and on these alone each instruction makes one move: it goes on at once, or with a
+-- variable word that it loads, or after a store, or it ends the body. So one definition serves
+-- each memory, and also "whatever is loaded".
 use Rattle.std.specs.Prelude.{ℕ, ◌≡◌, ◌+◌, ◌-◌, ◌<◌, ◌≤◌, ◌==◌, if◌then◌else◌, List, [], ◌∷◌, ◌++◌, length, take, drop, reverse, replicate, slice_index_or, slice_set, Some}
 use Rattle.coati_word.specs.Operator.{operator_value, unary_value, remainder}
 use Rattle.coati_word.specs.declared.ending.Ending.{Ending}
@@ -42,18 +43,26 @@ behind count operands s = at_place (s.place + count) operands s
 abbrev pub move_of : Instr → State → Move
 move_of (Push k) s = Move.goes (behind 2 (k ∷ s.operands) s)
 move_of (GetL i) s = Move.goes (behind 2 (slice_index_or s.locals i 0 ∷ s.operands) s)
-move_of (SetL i) s = Move.goes (record { place = s.place + 2; operands = below s.operands; locals = slice_set s.locals i (top s.operands) })
+move_of (SetL i) s = Move.goes (record {
+  place = s.place + 2;
+  operands = below s.operands;
+  locals = slice_set s.locals i (top s.operands);
+})
 move_of (LoadV a) s = Move.loads a (λ value. behind 2 (value ∷ s.operands) s)
 move_of (StoreV a) s = Move.stores a (top s.operands) (behind 2 (below s.operands) s)
-move_of (LoadX a n) s = Move.loads (a + remainder (top s.operands) n) (λ value. behind 3 (value ∷ below s.operands) s)
-move_of (StoreX a n) s = Move.stores (a + remainder (top (below s.operands)) n) (top s.operands) (behind 3 (below (below s.operands)) s)
+move_of (LoadX a n) s = Move.loads (a + remainder (top s.operands) n)
+    (λ value. behind 3 (value ∷ below s.operands) s)
+move_of (StoreX a n) s = Move.stores (a + remainder (top (below s.operands)) n) (top s.operands)
+    (behind 3 (below (below s.operands)) s)
 move_of (Jump t) s = Move.goes (at_place t s.operands s)
-move_of (JumpZ t) s = Move.goes (at_place (if top s.operands == 0 then t else s.place + 2) (below s.operands) s)
+move_of (JumpZ t) s = Move.goes (at_place (if top s.operands == 0 then t
+    else s.place + 2) (below s.operands) s)
 move_of (Next t) s = Move.ends (ending.Next t)
 move_of Halt s = Move.ends ending.Halt
 move_of Done s = Move.ends ending.Done
 move_of (Give n) s = Move.ends (ending.Given (reverse (take n s.operands)))
-move_of (Two op) s = Move.goes (behind 1 (operator_value op (top (below s.operands)) (top s.operands) ∷ below (below s.operands)) s)
+move_of (Two op) s = Move.goes (behind 1 (operator_value op (top (below s.operands))
+    (top s.operands) ∷ below (below s.operands)) s)
 move_of (One op) s = Move.goes (behind 1 (unary_value op (top s.operands) ∷ below s.operands) s)
 
 -- how many operands an instruction pops
@@ -85,8 +94,8 @@ IsWithin count (Move.loads word next) = word < count
 IsWithin count (Move.stores word value next) = word < count
 IsWithin count (Move.ends ending) = Unit {0}
 
--- the instruction can run where there are so many variable words: its operands are there, at most 32 remain, and its
--- word is one of them
+-- the instruction can run where there are so many variable words: its operands are there, at most
+-- 32 remain, and its word is one of them
 pub record CanRun (count : ℕ) (instr : Instr) (s : State) : Type 0 where
   pub operands : popped instr ≤ length s.operands
   pub room : length s.operands + pushed instr ≤ 32 + popped instr
@@ -108,4 +117,9 @@ local_count = 32
 
 -- where a body starts on its parameters: they are the first locals, and the others are 0
 abbrev pub start : List ℕ → State
-start params = record { place = 0; operands = []; locals = params ++ replicate (local_count - length params) 0 }
+start params = record {
+  place = 0;
+  operands = [];
+  locals = params
+      ++ replicate (local_count - length params) 0;
+}

@@ -9,7 +9,8 @@ use std::alloc::Global;
 use std::marker::Model;
 use task_syntax::BodyId;
 
-/// The code of a program: the words of all bodies, tasks by number, then for each event its top half and its bottom half.
+/// The code of a program: the words of all bodies, tasks by number, then for each event its top
+/// half and its bottom half.
 #[derive(Drop)]
 pub struct Code {
     tasks: u16,

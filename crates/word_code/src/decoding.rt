@@ -5,8 +5,9 @@ ghost use Rattle.word_code.specs.InstructionLaws.{StandsAt};
 use crate::Instr;
 use coati_word::{Op, Op1};
 
-/// The instruction that starts at a place, and its count of words. None where no instruction starts there: the word is no
-/// opcode or missing, an operand word is missing, or an operand is out of its range.
+/// The instruction that starts at a place, and its count of words. None where no instruction
+/// starts there: the word is no opcode or missing, an operand word is missing, or an operand is
+/// out of its range.
 pub fn decode(words: &[u16], at: usize) -> Option<(Instr, usize)>
     ensures value { result ≡ decoded (drop at words.now) }
     ensures found { IfSome result (λ r. StandsAt words.now at r.0 r.1) }

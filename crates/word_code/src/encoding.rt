@@ -4,7 +4,8 @@ ghost use Rattle.word_code.specs.Instruction.{IsEncodable, binary_number, encode
 use crate::Instr;
 use coati_word::{Op, Op1, OutOfMemory};
 
-/// Appends the words of an instruction, whose operands are in their ranges. A refusal appends nothing.
+/// Appends the words of an instruction, whose operands are in their ranges. A refusal appends
+/// nothing.
 pub fn encode(instr: &Instr, out: &mut Vec<u16>) -> Result<(), OutOfMemory>
     requires { IsEncodable instr.now }
     ensures ok { OnOk result (out.new.items ≡ out.old.items ++ encoded instr.now) }

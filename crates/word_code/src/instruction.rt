@@ -13,7 +13,8 @@ pub enum Instr {
     LoadV(u16),
     /// Pops a value and stores it in a variable word.
     StoreV(u16),
-    /// Pops an index and pushes the item of the array that begins at the first word and has the second as its length.
+    /// Pops an index and pushes the item of the array that begins at the first word and has the
+    /// second as its length.
     LoadX(u16, u16),
     /// Pops a value and an index and stores the value in that item of an array.
     StoreX(u16, u16),

@@ -17,13 +17,15 @@ pub fn following_goes_on()
     ensures { FollowingGoesOn }
 {}
 
-/// Courses that are followed one after another are followed as their chain, in the sum of their steps.
+/// Courses that are followed one after another are followed as their chain, in the sum of their
+/// steps.
 pub fn chains_are_followed_in_turn()
     ensures operands { ChainsAreFollowedInTurn ℕ ℕ }
     ensures body { ChainsAreFollowedInTurn ℕ Ending }
 {}
 
-/// A body that computes a course has its effect on each store, within its cost, and is never stuck, whatever its loads give.
+/// A body that computes a course has its effect on each store, within its cost, and is never
+/// stuck, whatever its loads give.
 pub fn bodies_do_what_they_compute()
     ensures effect { BodiesHaveTheirEffect }
     ensures never_stuck { BodiesAreNeverStuck }

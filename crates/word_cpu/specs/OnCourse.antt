@@ -13,9 +13,11 @@ use Rattle.word_cpu.specs.declared.turn.Turn.{Turn}
 use Rattle.word_cpu.specs.declared.turn.Turn.TheVariants.{Went, Storing, Ended}
 use Rattle.word_cpu.specs.Turning.{CanStep, IsBegun, IsStep, OfTheMove, state_of}
 
--- the machine follows a course in the words of its body, on a view of so many words, and ends after so many machine steps
--- more at most; the parts of a store under way that are made aren't among these
-pub record IsOnCourse (code : Bodies) (cpu : Cpu) (count left : ℕ) (begun : ℕ → ℕ → ℕ → Type 0) (course : Course Ending) : Type 0 where
+-- the machine follows a course in the words of its body, on a view of so many words, and ends
+-- after so many machine steps more at most; the parts of a store under way that are made aren't
+-- among these
+pub record IsOnCourse (code : Bodies) (cpu : Cpu) (count left : ℕ) (begun : ℕ → ℕ → ℕ →
+    Type 0) (course : Course Ending) : Type 0 where
   pub limit : ℕ
   pub follows : FollowsToTheEnd (body_words code cpu.body) count limit (state_of cpu) course
   pub in_time : limit ≤ left + cpu.part
@@ -38,25 +40,29 @@ written_by word value (Ended ending) = []
 -- the access of a step that makes a move, or a part of it
 abbrev pub done_by : Turn → Move → List Access
 done_by turn (Move.goes next) = []
-done_by turn (Move.loads word next) = map (λ (reading : Reading). Access.read reading.word reading.value) (read_by turn)
+done_by turn (Move.loads word next) = map (λ (reading : Reading). Access.read reading.word
+    reading.value) (read_by turn)
 done_by turn (Move.stores word value next) = written_by word value turn
 done_by turn (Move.ends ending) = []
 
 module _ {V : Type 0} (meaning : Meaning V) where
-  -- what a step makes of the view, by the accesses that it makes: nothing, or a load, or a part of a store, of which those
-  -- before are written
+  -- what a step makes of the view, by the accesses that it makes: nothing, or a load, or a part of
+  -- a store, of which those before are written
   pub data Touches (part : ℕ) (old new : V) : List Access → Type 0 where
     leaves : new ≡ old → Touches part old new []
     loads : (word : ℕ) → meaning.loaded old word new →
         Touches part old new (Access.read word (slice_index (meaning.words old) word) ∷ [])
     prepares : (word value : ℕ) → (0 < part → meaning.begun old word value part) → part < 2 →
-        meaning.stored old word value part new false → meaning.words new ≡ meaning.words old → Touches part old new []
+        meaning.stored old word value part new false → meaning.words new ≡ meaning.words old →
+        Touches part old new []
     stores : (word value : ℕ) → (0 < part → meaning.begun old word value part) →
-        meaning.stored old word value part new true → Touches part old new (Access.wrote word value ∷ [])
+        meaning.stored old word value part new true →
+        Touches part old new (Access.wrote word value ∷ [])
 
-  -- a step went along a course: it had time, made these accesses, and read what it answers; and what is left of the course
-  -- the machine follows in the time that is left
-  pub record WentAlong (code : Bodies) (left : ℕ) (course : Course Ending) (cpu next : Cpu) (old new : V) (turn : Turn) : Type 0 where
+  -- a step went along a course: it had time, made these accesses, and read what it answers; and
+  -- what is left of the course the machine follows in the time that is left
+  pub record WentAlong (code : Bodies) (left : ℕ) (course : Course Ending) (cpu next : Cpu)
+      (old new : V) (turn : Turn) : Type 0 where
     pub done : List Access
     pub rest : Course Ending
     pub remaining : ℕ
@@ -67,13 +73,17 @@ module _ {V : Type 0} (meaning : Meaning V) where
     pub sees : slice_index (meaning.words new) ≡ after done (slice_index (meaning.words old))
     pub count : length (meaning.words new) ≡ length (meaning.words old)
     pub touches : Touches cpu.part old new done
-    pub on_course : IsOnCourse code next (length (meaning.words new)) remaining (meaning.begun new) rest
+    pub on_course : IsOnCourse code next (length (meaning.words new)) remaining
+        (meaning.begun new) rest
 
   -- a step goes along the course, or it ends the body as the course ends and leaves the view
   abbrev pub GoesAlong : Bodies → ℕ → Course Ending → Cpu → Cpu → V → V → Turn → Type 0
-  GoesAlong code left course cpu next old new (Went reading) = WentAlong code left course cpu next old new (Went reading)
-  GoesAlong code left course cpu next old new Storing = WentAlong code left course cpu next old new Storing
-  GoesAlong code left course cpu next old new (Ended ending) = (course ≡ Course.ends ending) × (new ≡ old)
+  GoesAlong code left course cpu next old new (Went reading) =
+      WentAlong code left course cpu next old new (Went reading)
+  GoesAlong code left course cpu next old new Storing =
+      WentAlong code left course cpu next old new Storing
+  GoesAlong code left course cpu next old new (Ended ending) = (course ≡ Course.ends ending)
+      × (new ≡ old)
 
   -- a machine that is on a course can make a step
   abbrev pub MachinesOnCourseCanStep : Type 0
@@ -85,6 +95,7 @@ module _ {V : Type 0} (meaning : Meaning V) where
   -- and each of its steps goes along the course
   abbrev pub StepsGoAlongTheCourse : Type 0
   StepsGoAlongTheCourse =
-      (code : Bodies) (cpu next : Cpu) (old new : V) (turn : Turn) (left : ℕ) (course : Course Ending) →
+      (code : Bodies) (cpu next : Cpu) (old new : V) (turn : Turn) (left : ℕ)
+      (course : Course Ending) →
       IsOnCourse code cpu (length (meaning.words old)) left (meaning.begun old) course →
       IsStep meaning code cpu next old new turn → GoesAlong code left course cpu next old new turn

@@ -20,14 +20,19 @@ pub record HasBodyFor (program : Program) (number : BodyId) (params : List ℕ) 
 -- a course leads from the one list of words to the other, with these readings and this ending
 abbrev pub TellsCourse : Course Ending → List ℕ → List ℕ → List Reading → Ending → Type 0
 TellsCourse course old new read ending =
-    Tells old (accesses course (slice_index old)) (answer course (slice_index old)) new (record { readings = read; ending = ending })
+    Tells old (accesses course (slice_index old)) (answer course (slice_index old)) new
+    (record { readings = read; ending = ending })
 
 -- so does whatever course the words of a body compute
-abbrev pub TellsWhatIsComputed : List ℕ → ℕ → List ℕ → List ℕ → List ℕ → List Reading → Ending → Type 0
+abbrev pub TellsWhatIsComputed : List ℕ → ℕ → List ℕ → List ℕ → List ℕ → List Reading → Ending →
+    Type 0
 TellsWhatIsComputed words cost params old new read ending =
-    (course : Course Ending) → Computes words (length old) cost params course → TellsCourse course old new read ending
+    (course : Course Ending) → Computes words (length old) cost params course →
+    TellsCourse course old new read ending
 
--- the body of this number leads from the one list of words to the other, with these readings and this ending
+-- the body of this number leads from the one list of words to the other, with these readings and
+-- this ending
 abbrev pub TellsBody : Program → BodyId → List ℕ → List ℕ → List ℕ → List Reading → Ending → Type 0
 TellsBody program number params old new read ending =
-    (body : BodyRead) → body_of program number ≡ Some body → TellsCourse (course_on program body.params body.statements params) old new read ending
+    (body : BodyRead) → body_of program number ≡ Some body →
+    TellsCourse (course_on program body.params body.statements params) old new read ending

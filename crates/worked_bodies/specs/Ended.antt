@@ -12,8 +12,10 @@ use Rattle.word_cpu.specs.Reached.{Comes}
 use Rattle.word_cpu.specs.Turning.{IsStep}
 
 module _ {V : Type 0} (meaning : Meaning V) (code : Bodies) where
-  -- a machine that was started on a body ends it by the last of so many steps, with these readings, and the view is then this
-  pub record EndsBy (body : BodyId) (params : List ℕ) (view : V) (steps : ℕ) (read : List Reading) (ending : Ending) (new : V) : Type 0 where
+  -- a machine that was started on a body ends it by the last of so many steps, with these
+  -- readings, and the view is then this
+  pub record EndsBy (body : BodyId) (params : List ℕ) (view : V) (steps : ℕ) (read : List Reading)
+      (ending : Ending) (new : V) : Type 0 where
     pub spent : ℕ
     pub done : List Access
     pub before : Cpu

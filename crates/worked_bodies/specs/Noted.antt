@@ -5,4 +5,5 @@ use Rattle.std.specs.Prelude.{ℕ, zero, suc, ◌≡◌}
 abbrev pub IsNoted : (noted_word noted_value word value part : ℕ) → Type 0
 IsNoted noted_word noted_value word value zero = Unit {0}
 IsNoted noted_word noted_value word value (suc zero) = noted_word ≡ word
-IsNoted noted_word noted_value word value (suc (suc part)) = (noted_word ≡ word) × (noted_value ≡ value)
+IsNoted noted_word noted_value word value (suc (suc part)) = (noted_word ≡ word)
+    × (noted_value ≡ value)

@@ -37,10 +37,12 @@ impl Compiled {
         Ok(Compiled { checked, code })
     }
 
-    /// What the variable words hold at first; each is stored to at once. It is refused only where memory is.
+    /// What the variable words hold at first; each is stored to at once. It is refused only where
+    /// memory is.
     pub fn plain(&self, alloc: Global) -> Result<PlainWords, OutOfMemory>
         ensures words { IfOk result (λ view. view.words.items ≡ opening_values self.now.checked) }
-        ensures count { IfOk result (λ view. length view.words.items ≡ word_count self.now.checked.vars) }
+        ensures count { IfOk result (λ view. length view.words.items
+            ≡ word_count self.now.checked.vars) }
     {
         let words = self.opening(alloc)?;
         Ok(PlainWords { words })
@@ -49,7 +51,8 @@ impl Compiled {
     /// The same, but each is stored to in three parts.
     pub fn noted(&self, alloc: Global) -> Result<NotedWords, OutOfMemory>
         ensures words { IfOk result (λ view. view.words.items ≡ opening_values self.now.checked) }
-        ensures count { IfOk result (λ view. length view.words.items ≡ word_count self.now.checked.vars) }
+        ensures count { IfOk result (λ view. length view.words.items
+            ≡ word_count self.now.checked.vars) }
         ensures loads { IfOk result (λ view. view.loads ≡ 0) }
     {
         let words = self.opening(alloc)?;
@@ -63,7 +66,8 @@ impl Compiled {
 
     fn opening(&self, alloc: Global) -> Result<Vec<u16>, OutOfMemory>
         ensures words { IfOk result (λ words. words.items ≡ opening_values self.now.checked) }
-        ensures count { IfOk result (λ words. length words.items ≡ word_count self.now.checked.vars) }
+        ensures count { IfOk result (λ words. length words.items
+            ≡ word_count self.now.checked.vars) }
     {
         let store = SerialStore::opening(alloc, &self.checked)?;
         let mut words = Vec::new(alloc);
@@ -73,8 +77,9 @@ impl Compiled {
         Ok(words)
     }
 
-    /// Runs a body on the machine, over any view of the program's words. It tells what the evaluator tells, and by how many
-    /// machine steps, which is within the body's cost; it is refused only where memory is.
+    /// Runs a body on the machine, over any view of the program's words. It tells what the
+    /// evaluator tells, and by how many machine steps, which is within the body's cost; it is
+    /// refused only where memory is.
     pub fn run<V: View>(
         &self,
         alloc: Global,
@@ -87,7 +92,8 @@ impl Compiled {
         requires few { length params.now ≤ 4 }
         ensures told { IfOk result (λ ran. TellsBody self.now.checked body params.now
             (V.meaning.words view.old) (V.meaning.words view.new) ran.readings.items ran.ending) }
-        ensures ends { IfOk result (λ ran. EndsBy V.meaning (program_code self.now.checked) body params.now
+        ensures ends { IfOk result (λ ran. EndsBy V.meaning (program_code self.now.checked) body
+            params.now
             view.old ran.steps ran.readings.items ran.ending view.new) }
         ensures in_time { IfOk result (λ ran. ran.steps ≤ cost_of self.now.checked body) }
         ensures words { OnOk result

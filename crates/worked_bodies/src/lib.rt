@@ -1,5 +1,5 @@
-//! The bodies of programs on the word machine, over two views of the variable words; and, as tests, those of worked programs
-//! beside the plain evaluator.
+//! The bodies of programs on the word machine, over two views of the variable words; and, as
+//! tests, those of worked programs beside the plain evaluator.
 #![tactic(auto)]
 
 mod compiled;

@@ -37,8 +37,10 @@ pub(crate) fn run_within<V: View>(
     requires few { length params.now ≤ 4 }
     requires words { length (V.meaning.words view.old) ≤ 256 }
     requires computes { (course : Course Ending)
-        × Computes (body_words code.now body) (length (V.meaning.words view.old)) cost params.now course }
-    ensures told { IfOk result (λ ran. TellsWhatIsComputed (body_words code.now body) cost params.now
+        × Computes (body_words code.now body) (length (V.meaning.words view.old)) cost params.now
+        course }
+    ensures told { IfOk result (λ ran. TellsWhatIsComputed (body_words code.now body) cost
+        params.now
         (V.meaning.words view.old) (V.meaning.words view.new) ran.readings.items ran.ending) }
     ensures ends { IfOk result (λ ran. EndsBy V.meaning code.now body params.now view.old
         ran.steps ran.readings.items ran.ending view.new) }

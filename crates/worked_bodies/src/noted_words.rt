@@ -3,7 +3,8 @@ ghost use Rattle.worked_bodies.specs.Noted.{IsNoted};
 
 use word_cpu::View;
 
-/// Words of which a store takes three steps: its word is noted, then its value, and then it is made. Loads are counted.
+/// Words of which a store takes three steps: its word is noted, then its value, and then it is
+/// made. Loads are counted.
 #[derive(Drop)]
 pub struct NotedWords {
     pub words: Vec<u16>,

@@ -105,7 +105,8 @@ fn a_posting_is_served_whenever_it_comes(rt: HostRuntime) -> Result<(), Fail> {
     Ok(())
 }
 
-/// A run with a posting at 17, the power being cut behind so many steps, tells this behind the bound.
+/// A run with a posting at 17, the power being cut behind so many steps, tells this behind the
+/// bound.
 fn expect_cut(
     rt: &impl Abort,
     alloc: Global,

@@ -127,7 +127,8 @@ fn runs_are_printed(rt: HostRuntime) -> Result<(), Fail> {
     Ok(())
 }
 
-/// A run that counts to three with one cut, behind so many steps, tells the boot between these lines.
+/// A run that counts to three with one cut, behind so many steps, tells the boot between these
+/// lines.
 fn expect_boot(
     rt: &impl Abort,
     alloc: Global,
@@ -210,8 +211,8 @@ fn periods_of_one_step_give_no_commit(rt: HostRuntime) -> Result<(), Fail> {
     )
 }
 
-/// Whether a run of the source takes this many steps. With the power cut behind them, it then tells the
-/// boot, and else what it tells without a cut.
+/// Whether a run of the source takes this many steps. With the power cut behind them, it then
+/// tells the boot, and else what it tells without a cut.
 fn takes_steps(
     rt: &impl Abort,
     alloc: Global,

@@ -319,7 +319,8 @@ fn misplaced_tokens_are_explained(rt: HostRuntime) -> Result<(), Fail> {
     Ok(())
 }
 
-/// A statement of a head, a middle within so many of the texts before and after it, and a tail; and what is told of it.
+/// A statement of a head, a middle within so many of the texts before and after it, and a tail;
+/// and what is told of it.
 type Nesting = (
     &'static str,
     &'static str,

@@ -44,7 +44,8 @@ pub(crate) fn least_with_too_many_locals(program: &Program) -> Option<u32>
     least_in_bodies(BodyRule::TooManyLocals, program)
 }
 
-/// Rule 15: the least name of a task or an event with a body that needs more than 32 operand words.
+/// Rule 15: the least name of a task or an event with a body that needs more than 32 operand
+/// words.
 #[tactic(auto, using(crate::proofs::LeastParts::IsLeastOf_least))]
 pub(crate) fn least_with_too_deep_stack(program: &Program) -> Option<u32>
     ensures { IsLeastOf (too_deep_stack_places program.now) result }

@@ -44,8 +44,8 @@ fn above(bound: u32, number: u32, at: u32) -> Option<u32>
     if number > bound { Some(at) } else { None }
 }
 
-/// Rule 16: the least name of a task or an event with a body that is too long, and the body's size;
-/// the first of two at one place.
+/// Rule 16: the least name of a task or an event with a body that is too long, and the body's
+/// size; the first of two at one place.
 #[tactic(auto, using(crate::proofs::SizeParts::IsFirstLeastOf_first_least))]
 pub(crate) fn first_too_long(program: &Program) -> Option<(u32, u32)>
     ensures { IsFirstLeastOf (too_long_places program.now) result }

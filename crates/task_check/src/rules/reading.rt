@@ -11,8 +11,8 @@ use super::transitions::least_into_tx;
 use crate::Rule;
 use task_syntax::Program;
 
-/// The first broken rule of 8 to 13, those on endings, transitions, top halves, messages and loops,
-/// at its least place.
+/// The first broken rule of 8 to 13, those on endings, transitions, top halves, messages and
+/// loops, at its least place.
 pub(crate) fn endings_and_shapes(program: &Program) -> Option<(Rule, u32)>
     ensures { IsFound program.now 8 14 result }
 {

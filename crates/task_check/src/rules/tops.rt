@@ -19,7 +19,8 @@ pub(crate) fn least_variable_in_top(program: &Program) -> Option<u32>
 }
 
 fn least_in_events(program: &Program, events: &[Event]) -> Option<u32>
-    ensures { result ≡ least (flat_map (λ event. named_in_block program.now event.top) events.now) }
+    ensures { result ≡ least (flat_map (λ event. named_in_block program.now event.top)
+        events.now) }
 {
     least_among(
         events,

@@ -4,7 +4,8 @@ ghost use Rattle.task_syntax.specs.LocalCount.{local_count, declared_count, decl
 
 use crate::Stmt;
 
-/// The locals of a body with so many parameters. Each declaration counts, also where two blocks use one name.
+/// The locals of a body with so many parameters. Each declaration counts, also where two blocks
+/// use one name.
 #[tactic(auto, using(crate::proofs::Sums::saturating))]
 pub fn locals(body: &[Stmt], params: u32) -> u32
     ensures { result ≡ saturated (local_count body.now params) }

@@ -41,7 +41,8 @@ fn compiled(rt: &impl Abort, alloc: Global, source: &str) -> Result<Compiled, Fa
     Ok(Compiled::new(alloc, checked)?)
 }
 
-/// Runs a body over both views, which come to the same, and answers what it did and the words that it left.
+/// Runs a body over both views, which come to the same, and answers what it did and the words that
+/// it left.
 fn run_on_both(
     rt: &impl Abort,
     alloc: Global,

@@ -2,6 +2,7 @@ pub mod Ring
 pub mod Least
 pub mod Clashing
 pub mod Viewing
+pub mod Unflagging
 pub mod Flagging
 pub mod Undoing
 pub mod Ending

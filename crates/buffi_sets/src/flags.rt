@@ -1,7 +1,8 @@
 ghost use Rattle.std.specs.Prelude.{◌↔◌, ◌<◌, IfSome, IsNone};
 ghost use Rattle.nv_memory.specs.InRange.{InRange};
 ghost use Rattle.nv_memory.specs.State.{Writes, state};
-ghost use Rattle.buffi_sets.specs.Flags.{NeedsNoFlag, flag_change};
+ghost use Rattle.tx_buffer.specs.Next.{IsNext};
+ghost use Rattle.buffi_sets.specs.Flags.{HasNoFlag, NeedsNoFlag, flag_change, unflag_attempt_changes};
 
 use nv_memory::{Image, Write};
 use tx_buffer::look;
@@ -21,4 +22,23 @@ pub fn flag_write(image: &Image, word: u16) -> Option<Write>
         at: image.layout().attempt_flag(word),
         word: 1,
     })
+}
+
+/// The write that takes back the attempt's flag of the least word that has one. None exactly where
+/// no word has.
+pub fn unflag_write(image: &Image) -> Option<Write>
+    requires { InRange (state image.now) }
+    ensures next { IsNext image.now (unflag_attempt_changes (state image.now)) result }
+    ensures none { IsNone result ↔ HasNoFlag (state image.now) }
+{
+    let layout = image.layout();
+    for word in 0..layout.n {
+        if image.attempt_flag(word) {
+            return Some(Write {
+                at: layout.attempt_flag(word),
+                word: 0,
+            });
+        }
+    }
+    None
 }

@@ -1,7 +1,7 @@
 //! What follows from the definitions: each function's contract is a law, and its body does
 //! nothing.
 
-ghost use Rattle.buffi_sets.specs.Flags.{FlagWritesSetOneFlag};
+ghost use Rattle.buffi_sets.specs.Flags.{FlagWritesSetOneFlag, UnflagWritesTakeOneBack};
 ghost use Rattle.buffi_sets.specs.Undo.{DoomWritesKeep, UndoWritesKeep, UndosEnd};
 ghost use Rattle.buffi_sets.specs.View.{HandlersReadBehindHeldEvents};
 
@@ -9,6 +9,11 @@ ghost use Rattle.buffi_sets.specs.View.{HandlersReadBehindHeldEvents};
 #[tactic(auto, using(crate::proofs::Flagging::flag_set))]
 pub fn flag_writes_set_one_flag()
     ensures { FlagWritesSetOneFlag }
+{}
+
+/// A write that takes back a flag of the attempt leaves all else.
+pub fn unflag_writes_take_one_back()
+    ensures { UnflagWritesTakeOneBack }
 {}
 
 /// Below its own log a handler reads the committed words, changed by the held events, the oldest

@@ -9,6 +9,6 @@ mod undo;
 mod view;
 
 pub use conflicts::conflict;
-pub use flags::flag_write;
+pub use flags::{flag_write, unflag_write};
 pub use undo::{abort_write, doom_write};
 pub use view::event_view;

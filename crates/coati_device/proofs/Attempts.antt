@@ -1,6 +1,6 @@
 -- A machine that runs a task: how it starts, and that it can make its steps.
-use Rattle.std.proofs.Common.{◌≡◌, ◌≢◌, ℕ, ◌<◌, List, [], length, refl, sym, ap, subst, ◌∙◌, arith, inl, inr}
-use Rattle.std.specs.Prelude.{Some, slice_get}
+use Rattle.std.proofs.Common.{◌≡◌, ◌≢◌, ℕ, ◌<◌, ◌&&◌, Bool, true, false, List, [], length, not, refl, sym, ap, subst, ◌∙◌, arith, inl, inr}
+use Rattle.std.specs.Prelude.{Some, is_some, slice_get}
 use Rattle.std.specs.Option.{option_map}
 use Rattle.std.proofs.lemmas.Option.{slice_get_cases}
 use Rattle.coati_word.specs.declared.ending.Ending.{Ending}
@@ -19,10 +19,10 @@ use Rattle.task_syntax.specs.Units.{halt, statements_of, task_course}
 use Rattle.task_check.specs.Accepted.{IsAccepted}
 use Rattle.task_check.specs.Bodies.{task_body}
 use Rattle.nv_memory.specs.declared.log.Log.TheVariants as log
-use Rattle.nv_memory.specs.Logs.{IsEmpty, log_length, task_log}
+use Rattle.nv_memory.specs.Logs.{IsEmpty, log_length, log_value, task_log}
 use Rattle.nv_memory.specs.Seats.{Memory}
-use Rattle.nv_memory.specs.State.{state}
-use Rattle.nv_memory.specs.Words.{current}
+use Rattle.nv_memory.specs.State.{State, state}
+use Rattle.nv_memory.specs.Words.{attempt_flag, current, mode}
 use Rattle.nv_memory.proofs.LogWrites.{empty_of}
 use Rattle.serial_log.specs.declared.held.Held.{Held}
 use Rattle.serial_log.specs.Standing.{standing_of}
@@ -38,7 +38,8 @@ use Rattle.word_cpu.proofs.OnCourse.{can_step}
 use Rattle.word_cpu.proofs.UnderWay.{ready_under_way, starts_under_way}
 use Rattle.coati_device.specs.declared.device.Device.{Device}
 use Rattle.coati_device.specs.declared.device.Phase.TheVariants.{Run}
-use Rattle.coati_device.specs.Attempt.{IsAtTask, IsAttempt, IsRunning, IsRunningIn, base_word}
+use Rattle.buffi_sets.specs.Flags.{HasNoFlag}
+use Rattle.coati_device.specs.Attempt.{IsAtTask, IsAttempt, IsRunning, IsRunningIn, base_word, is_read_below}
 use Rattle.coati_device.specs.Kept.{emptied}
 use Rattle.coati_device.specs.Laws.{CanRunOver, Fits}
 use Rattle.coati_device.specs.Points.{IsMemoryOf}
@@ -88,12 +89,23 @@ pub in_task : (program : Program) (code : Bodies) (m : Memory) (rest : List Held
 in_task program code m rest read cpu number is running =
     subst (IsRunningIn program code m rest read cpu) (sym is) running
 
+none_shared : (b : Bool) → (b && false) ≡ false
+none_shared true = refl
+none_shared false = refl
+
+-- nothing was read below where no access is made
+no_flag : (s : State) → (mode s ≡ 1 → HasNoFlag s) → mode s ≡ 1 → (word : ℕ) → word < s.n →
+    attempt_flag s word ≡ is_read_below s [] word
+no_flag s none buffi word low =
+    none buffi word low ∙ sym (none_shared (not (is_some (log_value s log.Tx word))))
+
 -- a task that starts on an empty log is running
 starts_running : (program : Program) (m : Memory) (cpu : Cpu) → TasksComputeTheirCourse
     → IsAccepted program → IsMemoryOf program m → IsClear (state m) → current (state m) ≢ halt
-    → log_length (state m) log.Task ≡ 0 → IsAtStart (Task (current (state m))) [] cpu
+    → log_length (state m) log.Task ≡ 0 → (mode (state m) ≡ 1 → HasNoFlag (state m))
+    → IsAtStart (Task (current (state m))) [] cpu
     → IsRunning program (program_code program) m [] cpu
-starts_running program m cpu law accepted memory clear on none start =
+starts_running program m cpu law accepted memory clear on none unset start =
     let code = program_code program in
     let at = at_task program m memory clear on in
     let number = current (state m) in
@@ -107,7 +119,7 @@ starts_running program m cpu law accepted memory clear on none start =
       at = at;
       body = start.body_is;
       done = [];
-      made = record { log = empty; reads = refl };
+      made = record { log = empty; reads = refl; flags = no_flag (state m) unset };
       left = found.0;
       under_way =
           subst (λ (base : Store). IsUnderWay task_view code cpu m found.0 course base [])
@@ -120,12 +132,12 @@ starts_running program m cpu law accepted memory clear on none start =
 pub starts_keep : (program : Program) (old new : Device) (cpu : Cpu) → TasksComputeTheirCourse
     → IsAccepted program → Fits program old → Chooses old → current (state old.image) ≢ halt
     → log_length (state old.image) log.Task ≡ 0
+    → (mode (state old.image) ≡ 1 → HasNoFlag (state old.image))
     → IsAtStart (Task (current (state old.image))) [] cpu
     → new ≡ record old { phase = Run cpu; attempt = emptied old.attempt } → Fits program new
-starts_keep program old new cpu law accepted fits chooses on none start is =
+starts_keep program old new cpu law accepted fits chooses on none unset start is =
     subst (λ (d : Device). Fits program d) (sym is) (record {
       memory = fits.memory;
-      not_doomed = fits.not_doomed;
       stands = fits.stands;
       waiting = fits.waiting;
       place = fits.place;
@@ -135,7 +147,7 @@ starts_keep program old new cpu law accepted fits chooses on none start is =
           (standing_of program old.history.marks).rest [] cpu (current (state old.image))
           start.body_is
           (starts_running program old.image cpu law accepted fits.memory chooses.clear on none
-          start);
+          unset start);
     })
 
 -- what a running machine says is told by its body

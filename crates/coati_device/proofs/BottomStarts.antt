@@ -108,7 +108,6 @@ starts_bottom_keep law fit program old new cpu accepted fits chooses none start 
     fits.stands.held in
     subst (λ (d : Device). Fits program d) (sym is) (record {
       memory = fits.memory;
-      not_doomed = fits.not_doomed;
       stands = fits.stands;
       waiting = fits.waiting;
       place = fits.place;

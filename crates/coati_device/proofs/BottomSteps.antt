@@ -155,7 +155,8 @@ module _ (program : Program) (m new : Memory) (rest : List Held) (read : List Re
   -- a step brought it further
   abbrev Came : Turn → Type 0
   Came turn =
-      CameFurther bottom_view (program_code program) here.left its_course (committed_word (state m))
+      CameFurther bottom_view (program_code program) here.left its_course
+      (committed_word (state m))
       here.done before after m new turn
 
   -- what a step came to
@@ -227,8 +228,8 @@ pub runs_bottom_keep : AccessesJoinUp → CoursesUnderWayGoOn Ending → Followi
           after_turn old.attempt turn;
     }
     → Fits program new
-runs_bottom_keep joins goes_on follows law program old new before after image turn fits running body
-    step is =
+runs_bottom_keep joins goes_on follows law program old new before after image turn fits running
+    body step is =
     let m = old.image in
     let code = program_code program in
     let standing = standing_of program old.history.marks in
@@ -313,7 +314,8 @@ module _ (follows : FollowingGoesOn) (stand : BodiesStandByNumber) (program : Pr
       can_run_bottom m rest read cpu memory held here
 
   -- a machine that runs can make its next step
-  pub can_run : (d : Device) (cpu : Cpu) → Fits program d → d.phase ≡ Run cpu → CanRun program d cpu
+  pub can_run : (d : Device) (cpu : Cpu) → Fits program d → d.phase ≡ Run cpu
+      → CanRun program d cpu
   can_run d cpu fits running =
       can_run_in d.image (standing_of program d.history.marks).rest d.attempt.items cpu fits.memory
       fits.stands.held cpu.body

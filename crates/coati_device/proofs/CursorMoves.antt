@@ -1,5 +1,5 @@
 -- A raised posting moves the cursor of its device, and no other.
-use Rattle.std.proofs.Common.{◌≡◌, ◌⊎◌, ℕ, zero, suc, ◌+◌, ◌-◌, ◌<◌, ◌≤◌, ◌==◌, List, [], ◌∷◌, ◌++◌, Bool, true, false, if◌then◌else◌, refl, sym, ap, subst, ◌∙◌, arith, inl, inr, length, length-append, length-drop, length-set, drop, drop-cons, map, append_assoc, append-nil, add-one, get_or-set_same, get_or-set_other}
+use Rattle.std.proofs.Common.{◌≡◌, ◌⊎◌, ℕ, zero, suc, ◌+◌, ◌<◌, ◌≤◌, ◌==◌, List, [], ◌∷◌, ◌++◌, Bool, true, false, if◌then◌else◌, refl, sym, ap, subst, ◌∙◌, arith, inl, inr, length, length-append, length-drop, length-set, drop, drop-cons, map, append_assoc, append-nil, add-one, get_or-set_same, get_or-set_other}
 use Rattle.std.specs.Prelude.{slice_set}
 use Rattle.std.proofs.lemmas.Bool.{cases_eq}
 use Rattle.std.proofs.lemmas.List.{drop-drop, map-append}
@@ -58,8 +58,8 @@ skipped_few device (first ∷ more) = elim (bool_cases (first.device == device))
 ]
 
 -- where a posting is left the script goes on
-pub left_within : (postings : List Posting) (device at : ℕ) → 0 < count_of device (drop at postings)
-    → at < length postings
+pub left_within : (postings : List Posting) (device at : ℕ)
+    → 0 < count_of device (drop at postings) → at < length postings
 left_within [] device at some = absurd (none_there at some)
   where
     none_there : (n : ℕ) → 0 < count_of device (drop n []) → ⊥
@@ -87,7 +87,8 @@ raised_more device raised posted =
     (sent_as posted ∷ [])
 
 -- the next posting of a device, and what comes behind it
-record IsNext (postings : List Posting) (device : ℕ) (c : Cursor) (posting : Posting) : Type 0 where
+record IsNext (postings : List Posting) (device : ℕ) (c : Cursor) (posting : Posting)
+    : Type 0 where
   rest : drop c.at postings ≡ posting ∷ drop (c.at + 1) postings
   within : c.at < length postings
   own : (posting.device == device) ≡ true
@@ -177,7 +178,8 @@ stays_raised postings marks more device c has same = record {
 raises_no_other : (postings : List Posting) (marks more : List Mark) (device : ℕ) (c : Cursor)
     (posted : Raised)
     → HasRaised postings marks device c → (posted.device == device) ≡ false
-    → raised_postings more ≡ raised_postings marks ++ posted ∷ [] → HasRaised postings more device c
+    → raised_postings more ≡ raised_postings marks ++ posted ∷ []
+    → HasRaised postings more device c
 raises_no_other postings marks more device c posted has other raised =
     let none : of_device device (sent_as posted ∷ []) ≡ [] = rw other refl in
     stays_raised postings marks more device c has
@@ -227,8 +229,8 @@ module _ (postings : List Posting) (marks more : List Mark) (cursors : List Curs
         (let eight = are.eight in omega (arith, eight, low)) in
         let found : cursor_of changed device ≡ moved postings device own =
         get_or-set_same cursors device (moved postings device own) no_cursor within in
-        subst (λ (number : ℕ). HasRaised postings more number (cursor_of changed number)) (sym here)
-        (subst (HasRaised postings more device) (sym found)
+        subst (λ (number : ℕ). HasRaised postings more number (cursor_of changed number))
+        (sym here) (subst (HasRaised postings more device) (sym found)
         (raises_own postings marks more device own (posting_at postings own.at) posted
         (are.each device low)
         (is_next postings marks device own (are.each device low) some) same raised))

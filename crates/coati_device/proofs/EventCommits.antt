@@ -1,6 +1,6 @@
--- Where the bottom half of the oldest posting has ended, its event is committed: the mark takes its
--- entry, whose log stands in
--- the committed words from then on, and the history goes on behind its posting.
+-- Where the bottom half of the oldest posting has ended, its event is committed: the mark takes
+-- its entry, whose log stands in the committed words from then on, and the history goes on behind
+-- its posting.
 use Rattle.std.proofs.Common.{◌≡◌, ◌==◌, ℕ, ◌+◌, ◌-◌, ◌≤◌, List, [], ◌∷◌, true, false, Option, Some, length, refl, sym, ap, subst, ◌∙◌, arith}
 use Rattle.std.proofs.lemmas.Bool.Decides.{nat_tests}
 use Rattle.std.specs.Option.{option_map_or, unwrap_or}
@@ -14,7 +14,7 @@ use Rattle.nv_memory.specs.Ring.{Entry, held_count, held_entries, position_after
 use Rattle.nv_memory.specs.Seats.{Memory}
 use Rattle.nv_memory.specs.StandsFor.{committed_word}
 use Rattle.nv_memory.specs.State.{State, set_to, state}
-use Rattle.nv_memory.specs.Words.{doomed, head, head_next, mark, mark_seat, mode, opened}
+use Rattle.nv_memory.specs.Words.{head, head_next, mark_seat, mode, opened}
 use Rattle.event_buffer.specs.TurnLaws.{MarksTakeTheOldest, Takes}
 use Rattle.event_buffer.proofs.Slots.{held_length}
 use Rattle.serial_log.specs.declared.held.Held.{Held}
@@ -33,7 +33,7 @@ use Rattle.coati_device.specs.Kept.{emptied, record_of_event, with_event}
 use Rattle.coati_device.specs.Laws.{Fits}
 use Rattle.coati_device.specs.OpenUnit.{HasNoneFinished, IsUnitPlace, OpenUnitFits, UnitFits, has_unit}
 use Rattle.coati_device.specs.Points.{AreHeld, AreLastAccepted, AreNumberedFrom, IsFit, Reads, StandsFor, reads_of}
-use Rattle.coati_device.specs.Rows.{EndsBottom, head_entry}
+use Rattle.coati_device.specs.Rows.{EndsBottom, IsClear, head_entry}
 use Rattle.coati_device.specs.TaskView.{HasWritten}
 use Rattle.coati_device.proofs.MarkedMemory.{marked}
 use Rattle.coati_device.proofs.TaskWrites.{IsPut, put_by}
@@ -85,11 +85,11 @@ last_behind held more accepted few are =
     subst (λ (number : ℕ). AreNumberedFrom number more) same are.1
 
 -- no unit is open before the mark, and none is behind it
-none_before : (s : State) → mark s ≡ 0 → opened s ≡ 0 → has_unit s ≡ false
-none_before s clear closed = rw (clear, closed) refl
+none_before : (s : State) → IsClear s → opened s ≡ 0 → has_unit s ≡ false
+none_before s clear closed = rw (clear.mark, clear.doomed, closed) refl
 
-none_behind_mark : (s : State) → opened s ≡ 0 → has_unit (marked s 3) ≡ false
-none_behind_mark s closed = rw closed refl
+none_behind_mark : (s : State) → IsClear s → opened s ≡ 0 → has_unit (marked s 3) ≡ false
+none_behind_mark s clear closed = rw (clear.doomed, closed) refl
 
 module _ (program : Program) (m : Memory) (reads : Reads) (standing : Standing)
     (fit : IsFit program (program_code program) m reads EndBottom standing)
@@ -138,12 +138,13 @@ module _ (program : Program) (m : Memory) (reads : Reads) (standing : Standing)
 
   unit_served : OpenUnitFits program (marked (state m) 3) served.run reads.unit reads.finished
   unit_served =
+      let clear = fit.attempt.at.clear in
       let events = fit.attempt.at.events in
       let none : HasNoneFinished reads.unit reads.finished =
       subst (UnitFits program (state m) standing.run reads.unit reads.finished)
-      (none_before (state m) fit.attempt.at.clear.mark events.closed) fit.unit in
+      (none_before (state m) clear events.closed) fit.unit in
       subst (UnitFits program (marked (state m) 3) served.run reads.unit reads.finished)
-      (sym (none_behind_mark (state m) events.closed)) none
+      (sym (none_behind_mark (state m) clear events.closed)) none
 
   module _ (lasts : LastWritesTellTheStore) (takes : Takes (state m) (marked (state m) 3)) where
     abbrev done : List Access
@@ -166,7 +167,8 @@ module _ (program : Program) (m : Memory) (reads : Reads) (standing : Standing)
       held =
           let both : AreHeld program (head_entry (state m) ∷ held_entries (marked (state m) 3))
           (due ∷ first.0) =
-          subst (AreHeld program (head_entry (state m) ∷ held_entries (marked (state m) 3))) first.1
+          subst (AreHeld program (head_entry (state m) ∷ held_entries (marked (state m) 3)))
+          first.1
           (subst (λ (entries : List Entry). AreHeld program entries standing.rest) takes.held
           fit.stands.held) in
           subst (AreHeld program (held_entries (marked (state m) 3))) (sym rest_is) both.1;
@@ -186,9 +188,8 @@ module _ (program : Program) (m : Memory) (reads : Reads) (standing : Standing)
                 subst (ArePlacesInRange (length (tasks program))) back
                 (takes.sound.places (length (tasks program)) fit.memory.places);
             closed = subst IsClosed back (takes.sound.closed fit.memory.closed);
-            split = ap mode wrote.state ∙ fit.memory.split;
+            mode = rw (ap mode wrote.state) fit.memory.mode;
           };
-          not_doomed = ap doomed wrote.state ∙ fit.not_doomed;
           stands = subst (λ (t : State). StandsFor program t served) back stands_served;
           waiting = waiting_served;
           place = subst (IsUnitPlace program) (ap (λ (stand : Stand). stand.place) (sym run_is))
@@ -222,7 +223,8 @@ commits_event_keep law lasts program old new image fits counted ends follows wro
     let from = length old.history.readings in
     let count = length old.attempt.items in
     let at = old.clock + 1 in
-    let told : Mark = record { at = at; kind = Commit (record_of_event event number from count) } in
+    let told : Mark =
+    record { at = at; kind = Commit (record_of_event event number from count) } in
     let ended : IsFit program (program_code program) m (reads_of old) EndBottom standing =
     subst (λ (phase : Phase). IsFit program (program_code program) m (reads_of old) phase standing)
     ends.phase fits in

@@ -43,14 +43,13 @@ preparing_leaves program m is clear =
         range = sound.range;
         places = sound.places (length (tasks program)) is.places;
         closed = sound.closed is.closed;
-        split = is.split;
+        mode = is.mode;
       };
       same = record {
         words = committed.words;
         place = committed.place;
         held = prepares.ring.held;
       };
-      same_doom = refl;
     }
 
 preparing_unit : (s : State) → KeepsUnit s (prepared s)
@@ -118,7 +117,12 @@ preparing_fits program code m n reads phase standing ends clear writes fit =
     fit_written program code m n change reads phase standing writes
     (preparing_leaves program m fit.memory clear)
     (open_unit_kept program s (prepared s) standing.run reads.unit reads.finished
-    (preparing_unit s) refl fit.unit)
+    (record {
+      unit = preparing_unit s;
+      open_same = refl;
+      mode_same = refl;
+      words_same = refl;
+    }) fit.unit)
     (subst (IsAttempt program code n rest read) (sym ends) still) fit
 
 pub prepares_event_keep : (program : Program) (old new : Device) (image : Memory) →

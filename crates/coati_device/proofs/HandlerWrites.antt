@@ -1,18 +1,19 @@
--- What a handler writes keeps all that memory stands for. The parts of a posting go into the entry
--- at the tail, which is nobody's yet; the write that accepts the posting makes it the newest of
--- those that wait.
+-- What a handler writes keeps all that memory stands for. The parts of a posting and the log of
+-- its event go into the entry at the tail, which is nobody's yet; the write that accepts the
+-- posting makes it the newest of those that wait.
 use Rattle.std.proofs.Common.{◌≡◌, ◌≢◌, ℕ, zero, suc, ◌+◌, ◌-◌, ◌<◌, ◌≤◌, ◌==◌, List, [], ◌∷◌, ◌++◌, Bool, true, false, Option, Some, None, if◌then◌else◌, refl, sym, ap, subst, ◌∙◌, arith, length, take, append-nil, length-append}
 use Rattle.std.specs.Prelude.{slice_get, slice_index}
 use Rattle.coati_word.specs.declared.ending.Ending.{Ending}
+use Rattle.coati_word.specs.declared.reading.Reading.{Reading}
 use Rattle.task_syntax.specs.CourseLaws.{CoursesUnderWayGoOn}
 use Rattle.task_syntax.specs.Names.{tasks}
 use Rattle.task_syntax.specs.declared.program.Program.{Program}
 use Rattle.nv_memory.specs.declared.log.Log.{Log}
 use Rattle.nv_memory.specs.declared.log.Log.TheVariants as log
-use Rattle.nv_memory.specs.InRange.{ArePlacesInRange, InRange, IsClosed, IsRing}
-use Rattle.nv_memory.specs.Logs.{entry_log, length_in, seats_of}
+use Rattle.nv_memory.specs.InRange.{InRange, IsRing}
+use Rattle.nv_memory.specs.Logs.{entry_log, length_in, log_index, log_length, seats_of}
 use Rattle.nv_memory.specs.Ring.{Entry, entry_at, held_count, held_entries, oldest, slot_of, slots_from}
-use Rattle.nv_memory.specs.Seats.{Memory, Seat}
+use Rattle.nv_memory.specs.Seats.{IsMemory, Memory, Seat}
 use Rattle.nv_memory.specs.StandsFor.{committed_word, head_slot}
 use Rattle.nv_memory.specs.State.{Change, State, put, set_to, state}
 use Rattle.nv_memory.specs.Words.{head, mark, mode, tail, tail_seat}
@@ -20,10 +21,10 @@ use Rattle.nv_memory.proofs.Frames.{header_apart}
 use Rattle.nv_memory.proofs.Held.{tail_slot_is_free}
 use Rattle.nv_memory.proofs.Looks.{test_other}
 use Rattle.nv_memory.proofs.LogWrites.{LiesApart, value_beside}
-use Rattle.task_buffer.specs.Stores.{IsBegun}
+use Rattle.task_buffer.specs.Stores.{IsBegun, change_at, part_change, store_change}
 use Rattle.event_buffer.specs.Fill.{HasPosting, IsFilled, fill_change, is_full, tail_slot, word_change}
 use Rattle.event_buffer.specs.FillLaws.{AllPartsAreThePosting, PartsFillTheSlot, TailEntryIsFree}
-use Rattle.event_buffer.specs.Keeps.{KeepsSound}
+use Rattle.event_buffer.specs.Keeps.{KeepsBesideEntry, KeepsHeld, KeepsSound}
 use Rattle.event_buffer.specs.TurnLaws.{Accepts, AcceptsAddTheNewest, accept_change}
 use Rattle.event_buffer.proofs.Slots.{held_length}
 use Rattle.commit_log.specs.OpenUnit.{KeepsUnit}
@@ -33,10 +34,13 @@ use Rattle.serial_log.specs.declared.held.Held.{Held}
 use Rattle.word_code.specs.Code.{Bodies}
 use Rattle.coati_device.specs.declared.device.Phase.{Phase}
 use Rattle.coati_device.specs.Attempt.{IsAttempt}
-use Rattle.coati_device.specs.OpenUnit.{OpenUnitFits, has_unit}
+use Rattle.coati_device.specs.HeldEvents.{EventsFit, HoldsEvent}
+use Rattle.coati_device.specs.OpenUnit.{IsUnitPlace, OpenUnitFits, has_unit}
 use Rattle.coati_device.specs.Points.{AreHeld, AreLastAccepted, AreNumberedFrom, IsEntryOf, IsFit, IsMemoryOf, Reads, StandsFor, message_to}
-use Rattle.coati_device.specs.OpenUnit.{IsUnitPlace}
+use Rattle.coati_device.specs.Raises.{waits_held}
 use Rattle.coati_device.specs.TaskView.{HasWritten}
+use Rattle.coati_device.specs.Waits.{Waits}
+use Rattle.coati_device.proofs.AcceptedEvents.{behind_events, events_held, events_left}
 use Rattle.coati_device.proofs.LeftAttempts.{LeavesAttempts, SameLog, attempt_left}
 use Rattle.coati_device.proofs.OpenUnits.{open_unit_kept}
 use Rattle.coati_device.proofs.TaskWrites.{IsPut, put_by}
@@ -63,22 +67,23 @@ same_log s own seat given lies = record {
   begun = begun_beside s own seat given lies;
 }
 
-no_choice : (b : Bool) → (if b then false else false) ≡ false
-no_choice true = refl
-no_choice false = refl
+both_other : (own slot : ℕ) (same_part same_at : Bool) → own ≢ slot
+    → (if same_part then (if same_at then own == slot else false) else false) ≡ false
+both_other own slot true true other = test_other own slot other
+both_other own slot true false other = refl
+both_other own slot false same_at other = refl
 
--- a write to an entry's event, message or log length, where the entry isn't the oldest held one
-module _ (s : State) (slot at given : ℕ) where
+-- a write to an entry, where the entry isn't the oldest held one
+module _ (s : State) (slot part at given : ℕ) where
   abbrev entered : State
-  entered = put s (set_to (Seat.Entry slot 0 at) given)
+  entered = put s (set_to (Seat.Entry slot part at) given)
 
-  entry_apart : (own : ℕ) → own ≢ slot → LiesApart (entry_log own) (Seat.Entry slot 0 at)
-  entry_apart own other =
-      record {
-        length = rw (test_other own slot other) (no_choice (1 == at));
-        number = λ i. refl;
-        value = λ i. refl;
-      }
+  entry_apart : (own : ℕ) → own ≢ slot → LiesApart (entry_log own) (Seat.Entry slot part at)
+  entry_apart own other = record {
+    length = both_other own slot (0 == part) (1 == at) other;
+    number = λ i. both_other own slot (1 == part) (i == at) other;
+    value = λ i. both_other own slot (2 == part) (i == at) other;
+  }
 
   leaves_at_entry : (mark s ≡ 0 → 0 < held_count s → head_slot s ≢ slot)
       → ((word : ℕ) → committed_word entered word ≡ committed_word s word)
@@ -98,13 +103,13 @@ module _ (s : State) (slot at given : ℕ) where
     tx_flags = λ word. refl;
     committed = committed;
     task_log =
-        same_log s log.Task (Seat.Entry slot 0 at) given
+        same_log s log.Task (Seat.Entry slot part at) given
         (record { length = refl; number = λ i. refl; value = λ i. refl });
     tx_log =
-        same_log s log.Tx (Seat.Entry slot 0 at) given
+        same_log s log.Tx (Seat.Entry slot part at) given
         (record { length = refl; number = λ i. refl; value = λ i. refl });
     oldest_log = λ clear some.
-        same_log s (log.Entry (head_slot s)) (Seat.Entry slot 0 at) given
+        same_log s (log.Entry (head_slot s)) (Seat.Entry slot part at) given
         (entry_apart (head_slot s) (other clear some));
     held = omega arith;
   }
@@ -140,20 +145,43 @@ leaves_at_tail s accepts =
       held = omega (arith, more, before, later);
     }
 
--- a part of a posting is written to its entry
-record IsOfEntry (slot : ℕ) (change : Change) : Type 0 where
-  at : ℕ
-  given : ℕ
-  is : change ≡ set_to (Seat.Entry slot 0 at) given
+-- a change of a word of an entry
+pub record IsOfEntry (slot : ℕ) (change : Change) : Type 0 where
+  pub part : ℕ
+  pub at : ℕ
+  pub given : ℕ
+  pub is : change ≡ set_to (Seat.Entry slot part at) given
 
 word_of_entry : (slot i : ℕ) (word : Option ℕ) → IsOfEntry slot (word_change slot i word)
-word_of_entry slot i (Some word) = record { at = 2 + i; given = word; is = refl }
-word_of_entry slot i None = record { at = 1; given = 0; is = refl }
+word_of_entry slot i (Some word) = record { part = 0; at = 2 + i; given = word; is = refl }
+word_of_entry slot i None = record { part = 0; at = 1; given = 0; is = refl }
 
+-- a part of a posting is one
 part_of_entry : (slot event : ℕ) (message : List ℕ) (part : ℕ)
     → IsOfEntry slot (fill_change slot event message part)
-part_of_entry slot event message zero = record { at = 0; given = event; is = refl }
+part_of_entry slot event message zero = record { part = 0; at = 0; given = event; is = refl }
 part_of_entry slot event message (suc i) = word_of_entry slot i (slice_get message i)
+
+new_of_entry : (s : State) (slot word value part : ℕ)
+    → IsOfEntry slot (part_change s (log.Entry slot) word value part)
+new_of_entry s slot word value zero =
+    record { part = 1; at = log_length s (log.Entry slot); given = word; is = refl }
+new_of_entry s slot word value (suc zero) =
+    record { part = 2; at = log_length s (log.Entry slot); given = value; is = refl }
+new_of_entry s slot word value (suc (suc more)) =
+    record { part = 0; at = 1; given = log_length s (log.Entry slot) + 1; is = refl }
+
+found_of_entry : (s : State) (slot word value part : ℕ) (found : Option ℕ)
+    → IsOfEntry slot (change_at s (log.Entry slot) word value part found)
+found_of_entry s slot word value part (Some i) =
+    record { part = 2; at = i; given = value; is = refl }
+found_of_entry s slot word value part None = new_of_entry s slot word value part
+
+-- and so is a part of a store into its log
+pub store_of_entry : (s : State) (slot word value part : ℕ)
+    → IsOfEntry slot (store_change s (log.Entry slot) word value part)
+store_of_entry s slot word value part =
+    found_of_entry s slot word value part (log_index s (log.Entry slot) word)
 
 first_slot : (k from count : ℕ) → 0 < count
     → slice_index (slots_from k from count) 0 ≡ slot_of k from
@@ -175,74 +203,239 @@ unit_left s t leaves = record {
 }
 
 has_unit_left : (s t : State) → LeavesAttempts s t → has_unit t ≡ has_unit s
-has_unit_left s t leaves = rw (leaves.same_mark, leaves.same_opened) refl
+has_unit_left s t leaves = rw (leaves.same_mark, leaves.same_doomed, leaves.same_opened) refl
 
-module _ (goes_on : CoursesUnderWayGoOn Ending) (program : Program) (code : Bodies) (reads : Reads)
-    (phase : Phase)
-    (m new : Memory) (change : Change) where
-  memory_left : IsMemoryOf program m → IsPut m change new
-      → KeepsSound (state m) (put (state m) change)
-      → mode (put (state m) change) ≡ mode (state m) → IsMemoryOf program new
-  memory_left memory wrote sound same =
-      let back = sym wrote.state in
-      record {
-        memory = wrote.memory;
-        words = wrote.words ∙ memory.words;
-        slots = wrote.slots ∙ memory.slots;
-        range = subst InRange back sound.range;
-        places =
-            subst (ArePlacesInRange (length (tasks program))) back
-            (sound.places (length (tasks program)) memory.places);
-        closed = subst IsClosed back (sound.closed memory.closed);
-        split = ap mode wrote.state ∙ same ∙ memory.split;
-      }
+-- what a step of a handler makes of memory: the entry at the tail alone is another
+pub record TouchesTail (m new : Memory) : Type 0 where
+  pub memory : IsMemory new
+  pub words : new.n ≡ m.n
+  pub slots : new.k ≡ m.k
+  pub leaves : LeavesAttempts (state m) (state new)
+  pub beside : KeepsBesideEntry (tail_slot (state m)) (state m) (state new)
+  pub held : KeepsHeld (state m) (state new)
+  pub sound : KeepsSound (state m) (state new)
 
-  -- a write that leaves the attempts, where more postings wait maybe
-  fit_left : (standing later : Standing) (more : List Held) → later.run ≡ standing.run
-      → later.rest ≡ standing.rest ++ more
-      → IsFit program code m reads phase standing → IsPut m change new
-      → KeepsSound (state m) (put (state m) change)
-      → LeavesAttempts (state m) (put (state m) change)
-      → StandsFor program (put (state m) change) later
-      → AreLastAccepted later → IsFit program code new reads phase later
-  fit_left standing later more run rest fit wrote sound leaves stands waiting =
-      let back = sym wrote.state in
-      let left : LeavesAttempts (state m) (state new) =
-      subst (LeavesAttempts (state m)) back leaves in
-      record {
-        memory = memory_left fit.memory wrote sound leaves.same_mode;
-        not_doomed = left.same_doomed ∙ fit.not_doomed;
-        stands = subst (λ (t : State). StandsFor program t later) back stands;
-        waiting = waiting;
-        place = subst (λ (stand : Stand). IsUnitPlace program stand.place) (sym run) fit.place;
-        unit =
-            subst (λ (stand : Stand). OpenUnitFits program (state new) stand reads.unit
-            reads.finished) (sym run)
-            (open_unit_kept program (state m) (state new) standing.run reads.unit reads.finished
-            (unit_left (state m) (state new) left) (has_unit_left (state m) (state new) left)
-            fit.unit);
-        attempt =
-            subst (λ (held : List Held). IsAttempt program code new held reads.attempt phase)
-            (sym rest)
-            (attempt_left goes_on program code m new left standing.rest more reads.attempt phase
-            fit.attempt);
-      }
+leaves_itself : (s : State) → LeavesAttempts s s
+leaves_itself s =
+    let same : (own : Log) → SameLog s s own = λ own. record {
+      values = λ word. refl;
+      begun = λ word value part begun. begun;
+    } in
+    record {
+      words = refl;
+      slots = refl;
+      same_mark = refl;
+      same_current = refl;
+      same_next = refl;
+      same_opened = refl;
+      same_head = refl;
+      same_doomed = refl;
+      same_mode = refl;
+      variables = λ word. refl;
+      attempt_flags = λ word. refl;
+      tx_flags = λ word. refl;
+      committed = λ word. refl;
+      task_log = same log.Task;
+      tx_log = same log.Tx;
+      oldest_log = λ clear some. same (log.Entry (head_slot s));
+      held = omega arith;
+    }
 
--- memory fits, and a unit is open or not
-pub record IsStill (program : Program) (code : Bodies) (reads : Reads) (phase : Phase)
-    (opened : Bool) (standing : Standing)
+keeps_itself : (slot : ℕ) (s : State) → KeepsBesideEntry slot s s
+keeps_itself slot s = record {
+  words = refl;
+  slots = refl;
+  same_mark = refl;
+  same_current = refl;
+  same_next = refl;
+  same_opened = refl;
+  same_head = refl;
+  same_head_next = refl;
+  same_tail = refl;
+  same_doomed = refl;
+  same_first = refl;
+  same_mode = refl;
+  variables = λ word. refl;
+  attempt_flags = λ word. refl;
+  tx_flags = λ word. refl;
+  entries = λ other differs. refl;
+  logs = λ other differs word. refl;
+}
+
+-- nothing is written
+pub touches_none : (m : Memory) → IsMemory m → InRange (state m) → TouchesTail m m
+touches_none m memory range = record {
+  memory = memory;
+  words = refl;
+  slots = refl;
+  leaves = leaves_itself (state m);
+  beside = keeps_itself (tail_slot (state m)) (state m);
+  held = record {
+    same = record { words = λ word. refl; place = refl; held = refl };
+    slots = refl;
+    logs = λ i low word. refl;
+  };
+  sound = record { range = range; places = λ tasks places. places; closed = λ closed. closed };
+}
+
+-- a word of the entry at the tail is
+pub touches_by : TailEntryIsFree → (m new : Memory) (change : Change) → InRange (state m)
+    → is_full (state m) ≡ false → IsOfEntry (tail_slot (state m)) change → IsPut m change new
+    → KeepsBesideEntry (tail_slot (state m)) (state m) (put (state m) change)
+    → KeepsSound (state m) (put (state m) change) → TouchesTail m new
+touches_by free m new change range room of wrote beside sound =
+    let s = state m in
+    let slot = tail_slot s in
+    let keeps = free s (put s change) range room beside in
+    let words : (word : ℕ)
+    → committed_word (entered s slot of.part of.at of.given) word ≡ committed_word s word =
+    subst (λ (c : Change). (word : ℕ) → committed_word (put s c) word ≡ committed_word s word)
+    of.is keeps.same.words in
+    let leaves : LeavesAttempts s (put s change) =
+    subst (λ (c : Change). LeavesAttempts s (put s c)) (sym of.is)
+    (leaves_at_entry s slot of.part of.at of.given (tail_is_other s range.ring) words) in
+    let back = sym wrote.state in
+    record {
+      memory = wrote.memory;
+      words = wrote.words;
+      slots = wrote.slots;
+      leaves = subst (LeavesAttempts s) back leaves;
+      beside = subst (KeepsBesideEntry slot s) back beside;
+      held = subst (KeepsHeld s) back keeps;
+      sound = subst (KeepsSound s) back sound;
+    }
+
+-- the tail stays
+pub tail_stays : (slot : ℕ) (s t : State) → KeepsBesideEntry slot s t
+    → tail_slot t ≡ tail_slot s
+tail_stays slot s t beside =
+    ap (λ (k : ℕ). slot_of k (tail t)) beside.slots ∙ ap (slot_of s.k) beside.same_tail
+
+memory_left : (program : Program) (m new : Memory) → IsMemoryOf program m → IsMemory new
+    → new.n ≡ m.n → new.k ≡ m.k → KeepsSound (state m) (state new)
+    → mode (state new) ≡ mode (state m) → IsMemoryOf program new
+memory_left program m new memory is words slots sound same = record {
+  memory = is;
+  words = words ∙ memory.words;
+  slots = slots ∙ memory.slots;
+  range = sound.range;
+  places = sound.places (length (tasks program)) memory.places;
+  closed = sound.closed memory.closed;
+  mode = subst (λ (found : ℕ). found < 2) (sym same) memory.mode;
+}
+
+-- a write that leaves the attempts, where more postings wait maybe
+fit_left : CoursesUnderWayGoOn Ending → (program : Program) (code : Bodies) (reads : Reads)
+    (phase : Phase) (m new : Memory) (standing later : Standing) (more : List Held)
+    → later.run ≡ standing.run → later.rest ≡ standing.rest ++ more
+    → IsFit program code m reads phase standing → IsMemoryOf program new
+    → LeavesAttempts (state m) (state new) → StandsFor program (state new) later
+    → AreLastAccepted later → IsFit program code new reads phase later
+fit_left goes_on program code reads phase m new standing later more run rest fit memory leaves
+    stands waiting = record {
+      memory = memory;
+      stands = stands;
+      waiting = waiting;
+      place = subst (λ (stand : Stand). IsUnitPlace program stand.place) (sym run) fit.place;
+      unit =
+          subst (λ (stand : Stand). OpenUnitFits program (state new) stand reads.unit
+          reads.finished) (sym run)
+          (open_unit_kept program (state m) (state new) standing.run reads.unit reads.finished
+          (record {
+            unit = unit_left (state m) (state new) leaves;
+            open_same = has_unit_left (state m) (state new) leaves;
+            mode_same = leaves.same_mode;
+            words_same = leaves.words;
+          }) fit.unit);
+      attempt =
+          subst (λ (held : List Held). IsAttempt program code new held reads.attempt phase)
+          (sym rest)
+          (attempt_left goes_on program code m new leaves standing.rest more reads.attempt phase
+          fit.attempt);
+    }
+
+-- what a handler finds
+pub record Around : Type 0 where
+  pub program : Program
+  pub code : Bodies
+  pub reads : Reads
+  pub phase : Phase
+  -- whether a unit is open, and the mode
+  pub opened : Bool
+  pub mode : ℕ
+
+-- memory fits, with these kept readings of held events, and a unit is open or not
+pub record IsStill (around : Around) (standing : Standing) (kept : List (List Reading))
     (m : Memory) : Type 0 where
-  pub fit : IsFit program code m reads phase standing
-  pub unit : has_unit (state m) ≡ opened
+  pub fit : IsFit around.program around.code m around.reads around.phase standing
+  pub unit : has_unit (state m) ≡ around.opened
+  pub mode : mode (state m) ≡ around.mode
+  pub events : EventsFit around.program (state m) standing kept
 
--- memory where the parts of a posting before this one stand in the entry at the tail, for which
--- there is room
-pub record IsOpen (program : Program) (code : Bodies) (reads : Reads) (phase : Phase)
-    (opened : Bool) (standing : Standing)
-    (event : ℕ) (message : List ℕ) (part : ℕ) (m : Memory) : Type 0 where
-  pub still : IsStill program code reads phase opened standing m
+-- and there is room for an entry more
+pub record HasRoom (around : Around) (standing : Standing) (events : List (List Reading))
+    (m : Memory) : Type 0 where
+  pub still : IsStill around standing events m
   pub room : is_full (state m) ≡ false
+
+-- the parts of a posting before this one stand in the entry at the tail
+pub record IsOpen (around : Around) (standing : Standing) (events : List (List Reading))
+    (event : ℕ) (message : List ℕ) (part : ℕ) (m : Memory) : Type 0 where
+  pub has_room : HasRoom around standing events m
   pub filled : IsFilled (state m) (tail_slot (state m)) event message part
+
+-- an entry has the event and the message of a posting
+pub record HasWords (entry : Entry) (event : ℕ) (message : List ℕ) : Type 0 where
+  pub same_event : entry.event ≡ event
+  pub words : take (length message) entry.message ≡ message
+
+-- all of them stand there, whatever its log has
+pub record IsWhole (around : Around) (standing : Standing) (events : List (List Reading))
+    (event : ℕ) (message : List ℕ) (m : Memory) : Type 0 where
+  pub has_room : HasRoom around standing events m
+  pub entry : HasWords (entry_at (state m) (tail_slot (state m))) event message
+
+module _ (goes_on : CoursesUnderWayGoOn Ending) (around : Around) (standing : Standing)
+    (events : List (List Reading)) (m new : Memory) where
+  still_touched : TouchesTail m new → IsStill around standing events m
+      → IsStill around standing events new
+  still_touched touches still =
+      let fit = still.fit in
+      let program = around.program in
+      let same = touches.held.same in
+      record {
+        fit =
+            fit_left goes_on program around.code around.reads around.phase m new standing standing
+            [] refl (sym (append-nil standing.rest)) fit
+            (memory_left program m new fit.memory touches.memory touches.words touches.slots
+            touches.sound touches.leaves.same_mode)
+            touches.leaves
+            (record {
+              words = λ word. same.words word ∙ fit.stands.words word;
+              place = same.place ∙ fit.stands.place;
+              held =
+                  subst (λ (entries : List Entry). AreHeld program entries standing.rest)
+                  (sym same.held) fit.stands.held;
+            }) fit.waiting;
+        unit = has_unit_left (state m) (state new) touches.leaves ∙ still.unit;
+        mode = touches.leaves.same_mode ∙ still.mode;
+        events =
+            events_left program (state m) (state new) standing events touches.leaves.same_mode
+            touches.held still.events;
+      }
+
+  pub room_touched : TouchesTail m new → HasRoom around standing events m
+      → HasRoom around standing events new
+  room_touched touches here =
+      let s = state m in
+      let t = state new in
+      record {
+        still = still_touched touches here.still;
+        room =
+            ap (λ (entries : List Entry). length entries == t.k) touches.held.same.held
+            ∙ ap (λ (k : ℕ). length (held_entries s) == k) touches.beside.slots
+            ∙ here.room;
+      }
 
 -- the entries of postings, and one more
 held_more : (program : Program) (entries : List Entry) (rest : List Held) (entry : Entry)
@@ -283,105 +476,140 @@ waiting_more standing later held rest accepted number waiting =
           (numbered_more first standing.rest held waiting.numbered last));
     }
 
-module _ (goes_on : CoursesUnderWayGoOn Ending) (program : Program) (code : Bodies) (reads : Reads)
-    (phase : Phase)
-    (opened : Bool) (standing : Standing) (event : ℕ) (message : List ℕ) (m new : Memory) where
+module _ (goes_on : CoursesUnderWayGoOn Ending) (around : Around) (standing : Standing)
+    (events : List (List Reading)) (event : ℕ) (message : List ℕ) (m new : Memory) where
   -- a part more
   pub fill_keeps : PartsFillTheSlot → TailEntryIsFree → (part : ℕ)
-      → IsOpen program code reads phase opened standing event message part m
+      → IsOpen around standing events event message part m
       → HasWritten m (fill_change (tail_slot (state m)) event message part) new
-      → IsOpen program code reads phase opened standing event message (part + 1) new
+      → IsOpen around standing events event message (part + 1) new
   fill_keeps parts free part here writes =
       let s = state m in
       let slot = tail_slot s in
       let change = fill_change slot event message part in
-      let fit = here.still.fit in
-      let wrote = put_by m new change fit.memory.memory writes in
-      let fills = parts s slot event message part fit.memory.range here.filled in
-      let keeps = free s (put s change) fit.memory.range here.room fills.beside in
-      let of = part_of_entry slot event message part in
-      let words : (word : ℕ)
-      → committed_word (entered s slot of.at of.given) word ≡ committed_word s word =
-      subst (λ (c : Change). (word : ℕ) → committed_word (put s c) word ≡ committed_word s word)
-      of.is keeps.same.words in
-      let leaves : LeavesAttempts s (put s change) =
-      subst (λ (c : Change). LeavesAttempts s (put s c)) (sym of.is)
-      (leaves_at_entry s slot of.at of.given (tail_is_other s fit.memory.range.ring) words) in
-      let stands : StandsFor program (put s change) standing = record {
-        words = λ word. keeps.same.words word ∙ fit.stands.words word;
-        place = keeps.same.place ∙ fit.stands.place;
-        held =
-            subst (λ (entries : List Entry). AreHeld program entries standing.rest)
-            (sym keeps.same.held) fit.stands.held;
-      } in
-      let same_slot : tail_slot (put s change) ≡ slot =
-      ap (λ (k : ℕ). slot_of k (tail (put s change))) fills.beside.slots
-      ∙ ap (slot_of s.k) fills.beside.same_tail in
+      let memory = here.has_room.still.fit.memory in
+      let wrote = put_by m new change memory.memory writes in
+      let fills = parts s slot event message part memory.range here.filled in
+      let touches =
+      touches_by free m new change memory.range here.has_room.room
+      (part_of_entry slot event message part) wrote fills.beside fills.sound in
       record {
-        still = record {
-          fit =
-              fit_left goes_on program code reads phase m new change standing standing [] refl
-              (sym (append-nil standing.rest)) fit wrote fills.sound leaves stands fit.waiting;
-          unit = ap has_unit wrote.state ∙ has_unit_left s (put s change) leaves ∙ here.still.unit;
-        };
-        room =
-            ap is_full wrote.state
-            ∙ ap (λ (entries : List Entry). length entries == (put s change).k) keeps.same.held
-            ∙ ap (λ (k : ℕ). length (held_entries s) == k) fills.beside.slots
-            ∙ here.room;
+        has_room = room_touched goes_on around standing events m new touches here.has_room;
         filled =
             subst (λ (t : State). IsFilled t (tail_slot t) event message (part + 1))
             (sym wrote.state)
-            (subst (λ (at : ℕ). IsFilled (put s change) at event message (part + 1)) (sym same_slot)
-            fills.filled);
+            (subst (λ (at : ℕ). IsFilled (put s change) at event message (part + 1))
+            (sym (tail_stays slot s (put s change) fills.beside)) fills.filled);
       }
 
-  -- the posting is accepted
-  pub accept_keeps : AllPartsAreThePosting → AcceptsAddTheNewest → (later : Standing) (held : Held)
-      → later.run ≡ standing.run
-      → later.rest ≡ standing.rest ++ held ∷ [] → later.accepted ≡ standing.accepted + 1
-      → held.number ≡ standing.accepted + 1 → held.event < length program.events
-      → held.event ≡ event → message_to program held ≡ message → length message ≤ 4
-      → IsOpen program code reads phase opened standing event message (length message + 2) m
-      → HasWritten m (accept_change (state m)) new
-      → IsStill program code reads phase opened later new
-  accept_keeps all adds later held run rest accepted number known is_event is_message short here
-      writes =
+  -- an entry stays whole where its log alone is another
+  pub whole_touched : TouchesTail m new
+      → entry_at (state new) (tail_slot (state m)) ≡ entry_at (state m) (tail_slot (state m))
+      → IsWhole around standing events event message m
+      → IsWhole around standing events event message new
+  whole_touched touches same here =
       let s = state m in
-      let change = accept_change s in
-      let fit = here.still.fit in
-      let wrote = put_by m new change fit.memory.memory writes in
-      let accepts = adds s fit.memory.range here.room in
-      let posting : HasPosting s (tail_slot s) event message =
-      all s (tail_slot s) event message short here.filled in
+      let t = state new in
+      record {
+        has_room = room_touched goes_on around standing events m new touches here.has_room;
+        entry =
+            subst (λ (at : ℕ). HasWords (entry_at t at) event message)
+            (sym (tail_stays (tail_slot s) s t touches.beside))
+            (subst (λ (entry : Entry). HasWords entry event message) (sym same) here.entry);
+      }
+
+-- behind the last part the entry is whole
+module _ (all : AllPartsAreThePosting) (around : Around) (standing : Standing)
+    (events : List (List Reading)) (event : ℕ) (message : List ℕ) (m : Memory)
+    (short : length message ≤ 4)
+    (here : IsOpen around standing events event message (length message + 2) m) where
+  pub all_filled : HasPosting (state m) (tail_slot (state m)) event message
+  all_filled = all (state m) (tail_slot (state m)) event message short here.filled
+
+  pub whole_filled : IsWhole around standing events event message m
+  whole_filled = record {
+    has_room = here.has_room;
+    entry = record { same_event = all_filled.same_event; words = all_filled.words };
+  }
+
+-- the posting that is accepted, and where the history leads with it
+pub record IsNewest (standing later : Standing) (held : Held) (program : Program) (event : ℕ)
+    (message : List ℕ) : Type 0 where
+  pub run : later.run ≡ standing.run
+  pub rest : later.rest ≡ standing.rest ++ held ∷ []
+  pub accepted : later.accepted ≡ standing.accepted + 1
+  pub number : held.number ≡ standing.accepted + 1
+  pub known : held.event < length program.events
+  pub is_event : held.event ≡ event
+  pub is_message : message_to program held ≡ message
+
+module _ (goes_on : CoursesUnderWayGoOn Ending) (adds : AcceptsAddTheNewest) (around : Around)
+    (standing later : Standing) (waits : Waits) (held : Held) (event : ℕ) (message : List ℕ)
+    (m new : Memory) (newest : IsNewest standing later held around.program event message)
+    (here : IsWhole around standing waits.events event message m)
+    (writes : HasWritten m (accept_change (state m)) new) where
+  abbrev newly : State
+  newly = put (state m) (accept_change (state m))
+
+  accepts_here : Accepts (state m) newly
+  accepts_here = adds (state m) here.has_room.still.fit.memory.range here.has_room.room
+
+  stands_more : StandsFor around.program newly later
+  stands_more =
+      let s = state m in
+      let stands = here.has_room.still.fit.stands in
       let entry : Entry = entry_at s (tail_slot s) in
-      let is : IsEntryOf program entry held = record {
-        known = known;
-        event = posting.same_event ∙ sym is_event;
+      let is : IsEntryOf around.program entry held = record {
+        known = newest.known;
+        event = here.entry.same_event ∙ sym newest.is_event;
         message =
-            subst (λ (words : List ℕ). take (length words) entry.message ≡ words) (sym is_message)
-            posting.words;
+            subst (λ (words : List ℕ). take (length words) entry.message ≡ words)
+            (sym newest.is_message) here.entry.words;
       } in
-      let stands : StandsFor program (put s change) later = record {
+      record {
         words =
-            λ word. accepts.committed.words word ∙ fit.stands.words word
-            ∙ ap (λ (stand : Stand). stand.store word) (sym run);
+            λ word. accepts_here.committed.words word ∙ stands.words word
+            ∙ ap (λ (stand : Stand). stand.store word) (sym newest.run);
         place =
-            accepts.committed.place ∙ fit.stands.place
-            ∙ ap (λ (stand : Stand). stand.place) (sym run);
+            accepts_here.committed.place ∙ stands.place
+            ∙ ap (λ (stand : Stand). stand.place) (sym newest.run);
         held =
-            subst (λ (entries : List Entry). AreHeld program entries later.rest) (sym accepts.held)
+            subst (λ (entries : List Entry). AreHeld around.program entries later.rest)
+            (sym accepts_here.held)
             (subst (λ (postings : List Held).
-            AreHeld program (held_entries s ++ entry ∷ []) postings)
-            (sym rest)
-            (held_more program (held_entries s) standing.rest entry held fit.stands.held is));
-      } in
-      let leaves = leaves_at_tail s accepts in
+            AreHeld around.program (held_entries s ++ entry ∷ []) postings)
+            (sym newest.rest)
+            (held_more around.program (held_entries s) standing.rest entry held stands.held is));
+      }
+
+  -- the posting is accepted: in buffi its event is held with what it has read
+  pub accept_keeps :
+      (mode (state m) ≡ 1 → HoldsEvent around.program (state m) (tail_slot (state m)) held
+      waits.made (behind_events around.program standing.rest standing.run.store))
+      → IsStill around later (waits_held (state m) waits).events new
+  accept_keeps ran =
+      let s = state m in
+      let still = here.has_room.still in
+      let fit = still.fit in
+      let program = around.program in
+      let wrote = put_by m new (accept_change s) fit.memory.memory writes in
+      let back = sym wrote.state in
+      let leaves = subst (LeavesAttempts s) back (leaves_at_tail s accepts_here) in
       record {
         fit =
-            fit_left goes_on program code reads phase m new change standing later (held ∷ []) run
-            rest fit wrote
-            accepts.sound leaves stands
-            (waiting_more standing later held rest accepted number fit.waiting);
-        unit = ap has_unit wrote.state ∙ has_unit_left s (put s change) leaves ∙ here.still.unit;
+            fit_left goes_on program around.code around.reads around.phase m new standing later
+            (held ∷ []) newest.run newest.rest fit
+            (memory_left program m new fit.memory wrote.memory wrote.words wrote.slots
+            (subst (KeepsSound s) back accepts_here.sound) leaves.same_mode)
+            leaves
+            (subst (λ (t : State). StandsFor program t later) back stands_more)
+            (waiting_more standing later held newest.rest newest.accepted newest.number
+            fit.waiting);
+        unit = has_unit_left s (state new) leaves ∙ still.unit;
+        mode = leaves.same_mode ∙ still.mode;
+        events =
+            subst (λ (t : State). EventsFit program t later (waits_held s waits).events) back
+            (events_held program s newly standing later held (tail_slot s) refl
+            accepts_here.slots (λ one word. accepts_here.logs.logs (log.Entry one) word)
+            newest.run newest.rest waits still.events ran);
       }

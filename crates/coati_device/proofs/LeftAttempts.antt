@@ -1,5 +1,6 @@
 -- An attempt under way stays while memory changes in words that it doesn't see.
-use Rattle.std.proofs.Common.{◌≡◌, ℕ, zero, suc, ◌+◌, ◌<◌, ◌≤◌, List, [], ◌∷◌, ◌++◌, Option, Some, refl, sym, ap, subst, ◌∙◌, arith}
+use Rattle.std.proofs.Common.{◌≡◌, ℕ, zero, suc, ◌<◌, ◌≤◌, ◌==◌, List, [], ◌∷◌, ◌++◌, Option, Some, refl, sym, ap, subst, ◌∙◌, arith}
+use Rattle.std.specs.Prelude.{◌&&◌, is_some, not}
 use Rattle.std.specs.Option.{unwrap_or}
 use Rattle.coati_word.specs.declared.reading.Reading.{Reading}
 use Rattle.task_syntax.specs.declared.body.BodyId.{BodyId}
@@ -9,6 +10,7 @@ use Rattle.coati_word.specs.declared.ending.Ending.{Ending}
 use Rattle.task_syntax.specs.Course.{Access, Store, accesses, answer}
 use Rattle.task_syntax.specs.CourseLaws.{CoursesUnderWayGoOn}
 use Rattle.task_syntax.specs.Units.{place_after, task_course}
+use Rattle.task_syntax.specs.Written.{is_shared}
 use Rattle.nv_memory.specs.declared.log.Log.{Log}
 use Rattle.nv_memory.specs.declared.log.Log.TheVariants as log
 use Rattle.nv_memory.specs.Logs.{log_value}
@@ -16,7 +18,7 @@ use Rattle.nv_memory.specs.Ring.{held_count, slot_of}
 use Rattle.nv_memory.specs.Seats.{Memory}
 use Rattle.nv_memory.specs.StandsFor.{committed_word}
 use Rattle.nv_memory.specs.State.{State, state}
-use Rattle.nv_memory.specs.Words.{attempt_flag_seat, current, doomed, head, mark, mode, next, opened, tx_flag_seat, variable}
+use Rattle.nv_memory.specs.Words.{attempt_flag, attempt_flag_seat, current, doomed, head, mark, mode, next, opened, tx_flag_seat, variable}
 use Rattle.task_buffer.specs.Stores.{IsBegun}
 use Rattle.serial_log.specs.declared.held.Held.{Held}
 use Rattle.serial_log.specs.Postings.{due_posting}
@@ -26,7 +28,7 @@ use Rattle.word_cpu.specs.UnderWay.{IsUnderWay}
 use Rattle.word_cpu.proofs.UnderWay.{stays_under_way}
 use Rattle.coati_device.specs.declared.device.Phase.{Phase}
 use Rattle.coati_device.specs.declared.device.Phase.TheVariants.{Choose, Run, End, EndBottom}
-use Rattle.coati_device.specs.Attempt.{HasEnded, HasEndedBottom, HasMade, HasMadeAtHead, IsAtPosting, IsAtTask, IsAttempt, IsInBottom, IsRunning, IsRunningIn, base_word, course_at}
+use Rattle.coati_device.specs.Attempt.{HasEnded, HasEndedBottom, HasMade, HasMadeAtHead, IsAtPosting, IsAtTask, IsAttempt, IsBehindTask, IsInBottom, IsRunning, IsRunningIn, base_word, course_at, is_read_below}
 use Rattle.coati_device.specs.BottomView.{bottom_view, bottom_word, bottom_words, head_log}
 use Rattle.coati_device.specs.Rows.{ComesToEvents, IsClear}
 use Rattle.coati_device.specs.TaskView.{task_view, task_word, task_words, values_from}
@@ -68,7 +70,7 @@ store_same : (one other : Store) → ((word : ℕ) → one word ≡ other word) 
 store_same one other same = λ i. λ word. same word i
 
 -- the oldest posting that waits stays the oldest
-due_stays : (rest more : List Held) (held : Held) → due_posting rest ≡ Some held
+pub due_stays : (rest more : List Held) (held : Held) → due_posting rest ≡ Some held
     → due_posting (rest ++ more) ≡ Some held
 due_stays [] more held due = absurd cc
 due_stays (first ∷ rest) more held due = due
@@ -84,7 +86,8 @@ module _ (s t : State) (leaves : LeavesAttempts s t) where
 
   base_left : base_word t ≡ base_word s
   base_left = store_same (base_word t) (base_word s) (λ word.
-      ap (λ (found : Option ℕ). unwrap_or found (committed_word t word)) (leaves.tx_log.values word)
+      ap (λ (found : Option ℕ). unwrap_or found (committed_word t word))
+      (leaves.tx_log.values word)
       ∙ ap (unwrap_or (log_value s log.Tx word)) (leaves.committed word))
 
   committed_left : committed_word t ≡ committed_word s
@@ -99,9 +102,33 @@ module _ (s t : State) (leaves : LeavesAttempts s t) where
   at_task_left program at =
       record { clear = clear_left at.clear; task = rw leaves.same_current at.task }
 
-  made_left : (read : List Reading) (done : List Access) → HasMade s read done → HasMade t read done
-  made_left read done made =
-      record { log = λ word. leaves.task_log.values word ∙ made.log word; reads = made.reads }
+  behind_left : (program : Program) → IsBehindTask program s → IsBehindTask program t
+  behind_left program at = record {
+    mark = rw leaves.same_mark at.mark;
+    doomed = leaves.same_doomed ∙ at.doomed;
+    task = rw leaves.same_current at.task;
+  }
+
+  below_left : (done : List Access) (word : ℕ)
+      → is_read_below t done word ≡ is_read_below s done word
+  below_left done word =
+      ap (λ (found : Option ℕ). not (is_some found) && is_shared done word)
+      (leaves.tx_log.values word)
+
+  flag_left : (word : ℕ) → attempt_flag t word ≡ attempt_flag s word
+  flag_left word = ap (λ (flag : ℕ). flag == 1) (leaves.attempt_flags word)
+
+  made_left : (read : List Reading) (done : List Access) → HasMade s read done
+      → HasMade t read done
+  made_left read done made = record {
+    log = λ word. leaves.task_log.values word ∙ made.log word;
+    reads = made.reads;
+    flags = λ buffi word low.
+        flag_left word
+        ∙ made.flags (sym leaves.same_mode ∙ buffi) word
+        (subst (λ (count : ℕ). word < count) leaves.words low)
+        ∙ sym (below_left done word);
+  }
 
   events_left : ComesToEvents s → ComesToEvents t
   events_left events = record {
@@ -137,8 +164,8 @@ module _ (s t : State) (leaves : LeavesAttempts s t) where
       ((leaves.oldest_log clear some).values word)
       ∙ ap (unwrap_or (log_value s (head_log s) word)) (leaves.variables word)
 
-module _ (goes_on : CoursesUnderWayGoOn Ending) (program : Program) (code : Bodies) (m new : Memory)
-    (leaves : LeavesAttempts (state m) (state new)) where
+module _ (goes_on : CoursesUnderWayGoOn Ending) (program : Program) (code : Bodies)
+    (m new : Memory) (leaves : LeavesAttempts (state m) (state new)) where
   task_words_left : task_words new ≡ task_words m
   task_words_left =
       ap (values_from (task_word (state new)) 0) leaves.words
@@ -211,7 +238,7 @@ module _ (goes_on : CoursesUnderWayGoOn Ending) (program : Program) (code : Bodi
   ended_left read place ended =
       let base = base_left (state m) (state new) leaves in
       record {
-        at = at_task_left (state m) (state new) leaves program ended.at;
+        at = behind_left (state m) (state new) leaves program ended.at;
         made =
             subst (λ (done : List Access). HasMade (state new) read done)
             (ap (λ (task : ℕ). accesses (task_course program task) (base_word (state m)))

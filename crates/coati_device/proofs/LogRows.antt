@@ -1,7 +1,7 @@
 -- Sleeping, emptying a log that an attempt before has left, in the entry at the head too, and
 -- writing the place behind an ended task leave that memory and the attempt fit where the history
 -- leads.
-use Rattle.std.proofs.Common.{◌≡◌, ◌≢◌, ◌==◌, ℕ, refl, sym, ap, subst, ◌∙◌, arith, List, length, inl, inr}
+use Rattle.std.proofs.Common.{◌≡◌, ◌≢◌, ◌==◌, ℕ, refl, sym, ap, subst, arith, List, length, inl, inr}
 use Rattle.coati_word.specs.declared.reading.Reading.{Reading}
 use Rattle.task_syntax.specs.declared.program.Program.{Program}
 use Rattle.task_syntax.specs.Course.{accesses, answer}
@@ -26,7 +26,7 @@ use Rattle.codegen.specs.Bodies.{program_code}
 use Rattle.coati_device.specs.declared.device.Device.{Device}
 use Rattle.coati_device.specs.declared.device.Phase.{Phase}
 use Rattle.coati_device.specs.declared.device.Phase.TheVariants.{Choose, End}
-use Rattle.coati_device.specs.Attempt.{HasEnded, HasMade, IsAtTask, IsAttempt, base_word}
+use Rattle.coati_device.specs.Attempt.{HasEnded, HasMade, IsAttempt, IsBehindTask, base_word}
 use Rattle.coati_device.specs.BottomView.{head_log}
 use Rattle.coati_device.specs.Endings.{MayLead}
 use Rattle.coati_device.specs.Endings.MayLead.{halts, goes}
@@ -43,7 +43,7 @@ pub sleeps_keep : (program : Program) (old new : Device) → Fits program old �
     Fits program new
 sleeps_keep program old new fit is = subst (Fits program) (sym is) fit
 
-attempt_chosen : (program : Program) (code : Bodies) (m : Memory) (rest : List Held)
+pub attempt_chosen : (program : Program) (code : Bodies) (m : Memory) (rest : List Held)
     (read : List Reading) (phase : Phase) → phase ≡ Choose →
     IsAttempt program code m rest read phase
 attempt_chosen program code m rest read phase is =
@@ -64,7 +64,7 @@ module _ (own : Log) (other : own ≢ log.Tx) where
   }
 
   beside_open : (s t : State) → KeepsBeside own s t → has_unit t ≡ has_unit s
-  beside_open s t beside = rw (beside.same_mark, beside.same_opened) refl
+  beside_open s t beside = rw (beside.same_mark, beside.same_opened, beside.same_doomed) refl
 
   emptying_leaves : (program : Program) (m : Memory) → IsMemoryOf program m →
       mark (state m) ≡ 0 → LeavesAll program (state m) (put (state m) emptying)
@@ -84,11 +84,10 @@ module _ (own : Log) (other : own ≢ log.Tx) where
             first = subst (IsPlace tasks_count) (sym beside.same_first) places.first;
           };
           closed = empties.closed is.closed;
-          split = beside.same_mode ∙ is.split;
+          mode = rw beside.same_mode is.mode;
         };
         same = same_beside s t own beside (λ two. absurd (omega (arith, clear, two)))
             (rw clear (λ taking. absurd cc));
-        same_doom = beside.same_doomed;
       }
 
   emptying_fits : (program : Program) (code : Bodies) (m n : Memory) (reads : Reads) (phase : Phase)
@@ -101,7 +100,12 @@ module _ (own : Log) (other : own ≢ log.Tx) where
       fit_written program code m n emptying reads phase standing writes
       (emptying_leaves program m fit.memory clear)
       (open_unit_kept program s t standing.run reads.unit reads.finished
-      (beside_unit s t clear beside) (beside_open s t beside) fit.unit)
+      (record {
+        unit = beside_unit s t clear beside;
+        open_same = beside_open s t beside;
+        mode_same = beside.same_mode;
+        words_same = beside.words;
+      }) fit.unit)
       (attempt_chosen program code n standing.rest reads.attempt phase chooses) fit
 
 -- the log that an attempt before has left
@@ -146,33 +150,29 @@ placing_leaves program m place is clear there = record {
       doomed_mark = is.closed.doomed_mark;
       doomed_place = is.closed.doomed_place;
     };
-    split = is.split;
+    mode = is.mode;
   };
   same = record { words = λ word. refl; place = rw clear refl; held = refl };
-  same_doom = refl;
 }
 
 -- an attempt that has ended, told of a state
-record HasEndedOn (program : Program) (s : State) (read : List Reading) (place : ℕ) : Type 0 where
-  at : IsAtTask program s
-  made : HasMade s read (accesses (task_course program (current s)) (base_word s))
-  leads : place ≡ place_after (answer (task_course program (current s)) (base_word s))
+pub record HasEndedOn (program : Program) (s : State) (read : List Reading) (place : ℕ)
+    : Type 0 where
+  pub at : IsBehindTask program s
+  pub made : HasMade s read (accesses (task_course program (current s)) (base_word s))
+  pub leads : place ≡ place_after (answer (task_course program (current s)) (base_word s))
 
 ended_after_place : (program : Program) (m : Memory) (read : List Reading) (ended place : ℕ) →
     HasEnded program m read ended →
     HasEndedOn program (put (state m) (set_to next_seat place)) read ended
 ended_after_place program m read ended place has =
-    let clear = has.at.clear in
     record {
-      at = record {
-        clear = record { mark = clear.mark; doomed = clear.doomed };
-        task = has.at.task;
-      };
-      made = record { log = has.made.log; reads = has.made.reads };
+      at = record { mark = has.at.mark; doomed = has.at.doomed; task = has.at.task };
+      made = record { log = has.made.log; reads = has.made.reads; flags = has.made.flags };
       leads = has.leads;
     }
 
-ended_on : (program : Program) (m : Memory) (read : List Reading) (place : ℕ) →
+pub ended_on : (program : Program) (m : Memory) (read : List Reading) (place : ℕ) →
     HasEndedOn program (state m) read place → HasEnded program m read place
 ended_on program m read place has =
     record { at = has.at; made = has.made; leads = has.leads }
@@ -209,7 +209,12 @@ placing_fits program code m n place reads phase standing accepted ends clear wri
     fit_written program code m n (set_to next_seat place) reads phase standing writes
     (placing_leaves program m place fit.memory clear there)
     (open_unit_kept program s t standing.run reads.unit reads.finished
-    (placing_unit s place clear) refl fit.unit)
+    (record {
+      unit = placing_unit s place clear;
+      open_same = refl;
+      mode_same = refl;
+      words_same = refl;
+    }) fit.unit)
     (subst (IsAttempt program code n standing.rest read) (sym ends) still) fit
 
 pub prepares_keep : (program : Program) (old new : Device) (place : ℕ) (image : Memory) →

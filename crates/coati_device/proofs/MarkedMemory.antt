@@ -61,7 +61,7 @@ memory_marked program m image value low other memory clear wrote =
             first = memory.places.first;
           });
       closed = subst IsClosed back (closed_marked (state m) value clear memory.closed);
-      split = ap mode wrote.state ∙ memory.split;
+      mode = rw (ap mode wrote.state) memory.mode;
     }
 
 -- the held entries stay

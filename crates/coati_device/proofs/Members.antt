@@ -33,13 +33,15 @@ is_at place tx (Some first) none = ap (λ (at : ℕ). Some at) (by (first == pla
 pub first_of_own : (program : Program) (tx place : ℕ) → transaction_of program place ≡ Some tx
     → midst_of_task program place ≡ None → first_task program tx ≡ Some place
 first_of_own program tx place own midst =
-    is_at place tx (first_task program tx) (sym (ap (option_and_then (unless_first program place)) own) ∙ midst)
+    is_at place tx (first_task program tx)
+    (sym (ap (option_and_then (unless_first program place)) own) ∙ midst)
 
 -- task 0 is in the midst of none
 pub none_midst_first : (program : Program) → midst_of_task program 0 ≡ None
 none_midst_first program = by (memberships 0 program.units) refl
   where
-    by : (members : List (Option ℕ)) → memberships 0 program.units ≡ members → midst_of_task program 0 ≡ None
+    by : (members : List (Option ℕ)) → memberships 0 program.units ≡ members
+        → midst_of_task program 0 ≡ None
     by [] e = rw e refl
     by (None ∷ more) e = rw e refl
     by (Some tx ∷ more) e =
@@ -65,7 +67,8 @@ within_late (x ∷ xs) most none = elim (cases_lt most (length (x ∷ xs))) [
 few_tasks : (program : Program) → IsAccepted program → length (tasks program) ≤ 64
 few_tasks program accepted =
     within_late (tasks program) 64
-    (none_late (slice_get (tasks program) 64) late_events late_transactions (accepted 7 (omega arith) (omega arith)))
+    (none_late (slice_get (tasks program) 64) late_events late_transactions
+    (accepted 7 (omega arith) (omega arith)))
   where
     late_events : List ℕ
     late_events = place_of (λ (event : Event). event.name) (slice_get program.events 16)
@@ -77,6 +80,7 @@ few_tasks program accepted =
 pub none_behind : (program : Program) → IsAccepted program → transaction_of program halt ≡ None
 none_behind program accepted =
     let few = few_tasks program accepted in
-    let past : length (memberships 0 program.units) ≤ halt = omega (arith, few, length-memberships 0 program.units) in
+    let past : length (memberships 0 program.units) ≤ halt =
+    omega (arith, few, length-memberships 0 program.units) in
     ap (λ (o : Option (Option ℕ)). option_and_then (λ tx. tx) o)
     (slice_get_past (memberships 0 program.units) halt past)

@@ -1,5 +1,5 @@
 -- What a write of one word leaves of a memory, and of what it fits, told of its state alone.
-use Rattle.std.proofs.Common.{◌≡◌, sym, subst, ◌∙◌, length, ap}
+use Rattle.std.proofs.Common.{◌≡◌, ◌<◌, sym, subst, ◌∙◌, length, ap}
 use Rattle.std.specs.Prelude.{List}
 use Rattle.std.proofs.lemmas.List.{length-set}
 use Rattle.task_syntax.specs.declared.program.Program.{Program}
@@ -10,7 +10,7 @@ use Rattle.nv_memory.specs.InRange.{ArePlacesInRange, InRange, IsClosed}
 use Rattle.nv_memory.specs.Ring.{Entry}
 use Rattle.nv_memory.specs.Seats.{IsMemory, Memory}
 use Rattle.nv_memory.specs.State.{Change, State, put, state}
-use Rattle.nv_memory.specs.Words.{doomed, mode}
+use Rattle.nv_memory.specs.Words.{mode}
 use Rattle.nv_memory.proofs.Puts.{puts_one_word}
 use Rattle.word_code.specs.Code.{Bodies}
 use Rattle.coati_device.specs.declared.device.Phase.{Phase}
@@ -25,12 +25,12 @@ pub state_written : (m n : Memory) (change : Change) → IsMemory m → HasWritt
 state_written m n change is w =
     ap state w.memory ∙ (puts_one_word m change w.write is w.writes).state
 
--- the ranges hold, in mode split
+-- the ranges hold
 pub record HasRanges (program : Program) (s : State) : Type 0 where
   pub range : InRange s
   pub places : ArePlacesInRange (length (tasks program)) s
   pub closed : IsClosed s
-  pub split : mode s ≡ 0
+  pub mode : mode s < 2
 
 pub memory_written : (program : Program) (m n : Memory) (change : Change) → IsMemoryOf program m →
     HasWritten m change n → HasRanges program (put (state m) change) → IsMemoryOf program n
@@ -45,7 +45,7 @@ memory_written program m n change is w ranges =
       range = there.range;
       places = there.places;
       closed = there.closed;
-      split = there.split;
+      mode = there.mode;
     }
 
 pub stands_still : (program : Program) (s t : State) (standing : Standing) → StandsForTheSame s t →
@@ -57,11 +57,10 @@ stands_still program s t standing same stands = record {
       (sym same.held) stands.held;
 }
 
--- memory stays in range and stands for the same, and no unit is given up
+-- memory stays in range and stands for the same
 pub record LeavesAll (program : Program) (s t : State) : Type 0 where
   pub ranges : HasRanges program t
   pub same : StandsForTheSame s t
-  pub same_doom : doomed t ≡ doomed s
 
 -- so it fits, where the open unit and the attempt do
 pub fit_written : (program : Program) (code : Bodies) (m n : Memory) (change : Change)
@@ -75,7 +74,6 @@ fit_written program code m n change reads phase standing writes leaves open_fits
     let left = subst (LeavesAll program (state m)) after leaves in
     record {
       memory = memory_written program m n change fit.memory writes leaves.ranges;
-      not_doomed = left.same_doom ∙ fit.not_doomed;
       stands = stands_still program (state m) (state n) standing left.same fit.stands;
       waiting = fit.waiting;
       place = fit.place;

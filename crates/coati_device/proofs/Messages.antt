@@ -150,7 +150,8 @@ module _ (program : Program) (count : ℕ) where
       (mapped_ways block ways last placed words)
 
   rolled : (x : S.Stmt-F Stmt) →
-      ((last : Bool) → early_step Top (S.map-Stmt Stmt (Bool → List ℕ) (early_in Top) x) last ≡ [] →
+      ((last : Bool) →
+      early_step Top (S.map-Stmt Stmt (Bool → List ℕ) (early_in Top) x) last ≡ [] →
       misgiven_step count (S.map-Stmt Stmt (List ℕ) (misgiven count) x) ≡ [] →
       Ways (ends_step (S.map-Stmt Stmt Bool statement_ends x))
       (statement_step program (S.map-Stmt Stmt Conduct (statement program) x))) →

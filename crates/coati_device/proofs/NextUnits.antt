@@ -17,6 +17,7 @@ use Rattle.codegen.specs.Bodies.{program_code}
 use Rattle.coati_device.specs.declared.device.Phase.TheVariants.{End}
 use Rattle.coati_device.specs.Kept.{record_of_unit, unit_of}
 use Rattle.coati_device.specs.Points.{IsFit, Reads}
+use Rattle.coati_device.specs.Rows.{IsClear}
 use Rattle.coati_device.proofs.Grown.{HasGrown}
 use Rattle.coati_device.proofs.Members.{first_of_own, none_behind}
 use Rattle.coati_device.proofs.TaskCommits.{IsOfUnit, unit_of_task}
@@ -29,15 +30,18 @@ entry_of of_tasks count all read reads = record {
 }
 
 -- it is the next one
-abbrev pub IsNextUnit : Program → Standing → (of_tasks : Committed) (count : ℕ) (all read reads : List Reading) → Type 0
+abbrev pub IsNextUnit : Program → Standing → (of_tasks : Committed) (count : ℕ)
+    (all read reads : List Reading) → Type 0
 IsNextUnit program standing of_tasks count all read reads =
     IsUnitNext program standing.rest standing.run (entry_of of_tasks count all read reads) of_tasks
 
 -- where a task has ended, and its unit with it
-module _ (program : Program) (m : Memory) (reads : Reads) (place : ℕ) (standing : Standing) (all : List Reading)
-    (fit : IsFit program (program_code program) m reads (End place) standing) (rules : IsAccepted program)
-    (grown : HasGrown program (state m) standing.run (reads.unit ++ reads.attempt) (reads.finished + 1) place)
-    (outside : is_inside program (current (state m)) place ≡ false) where
+module _ (program : Program) (m : Memory) (reads : Reads) (place : ℕ) (standing : Standing)
+    (all : List Reading) (fit : IsFit program (program_code program) m reads (End place) standing)
+    (rules : IsAccepted program)
+    (grown : HasGrown program (state m) standing.run (reads.unit ++ reads.attempt)
+    (reads.finished + 1) place) (outside : is_inside program (current (state m)) place ≡ false)
+    (clear : IsClear (state m)) where
   abbrev task : ℕ
   task = current (state m)
 
@@ -47,7 +51,8 @@ module _ (program : Program) (m : Memory) (reads : Reads) (place : ℕ) (standin
   abbrev read : List Reading
   read = reads.unit ++ reads.attempt
 
-  next_by : (own : Option ℕ) → transaction_of program task ≡ own → IsOfUnit program (state m) stand reads.finished
+  next_by : (own : Option ℕ) → transaction_of program task ≡ own
+      → IsOfUnit program (state m) stand reads.finished
       → IsNextUnit program standing (unit_of own task) (reads.finished + 1) all read read
   next_by None own of =
       let one = of.first own in
@@ -87,7 +92,8 @@ module _ (program : Program) (m : Memory) (reads : Reads) (place : ℕ) (standin
       }
 
   -- it is the next one
-  pub whole_is_next : IsNextUnit program standing (unit_of (transaction_of program task) task) (reads.finished + 1) all read read
+  pub whole_is_next : IsNextUnit program standing (unit_of (transaction_of program task) task)
+      (reads.finished + 1) all read read
   whole_is_next =
       next_by (transaction_of program task) refl
-      (unit_of_task program m reads (End place) standing fit fit.attempt.at.clear.mark)
+      (unit_of_task program m reads (End place) standing fit clear)

@@ -1,5 +1,5 @@
 -- The mark of an answered posting is legal, and the history stands for what the answer says.
-use Rattle.std.proofs.Common.{◌≡◌, ◌≢◌, ◌⊎◌, ℕ, ◌+◌, ◌-◌, ◌<◌, ◌≤◌, ◌==◌, List, [], ◌∷◌, ◌++◌, true, Option, Some, refl, sym, ap, subst, ◌∙◌, arith, inl, inr, length, length-append, map, append-nil}
+use Rattle.std.proofs.Common.{◌≡◌, ◌≢◌, ◌⊎◌, ℕ, ◌+◌, ◌<◌, ◌≤◌, ◌==◌, List, [], ◌∷◌, ◌++◌, true, Option, Some, None, refl, sym, ap, subst, ◌∙◌, arith, inl, inr, length, length-append, map, append-nil}
 use Rattle.std.specs.Prelude.{All, sum, take}
 use Rattle.std.proofs.lemmas.Bool.{cases_eq}
 use Rattle.std.proofs.lemmas.List.{map-append}
@@ -7,6 +7,7 @@ use Rattle.std.proofs.lemmas.List.Elements.{All-append, All-cons, All-nil, filte
 use Rattle.task_syntax.specs.declared.program.Program.{Program}
 use Rattle.nv_memory.proofs.Looks.{test_other, test_same}
 use Rattle.nv_memory.specs.State.{State}
+use Rattle.nv_memory.specs.Words.{mode}
 use Rattle.serial_log.specs.declared.held.Held.{Held}
 use Rattle.serial_log.specs.declared.mark.Mark.{Mark}
 use Rattle.serial_log.specs.declared.mark.MarkKind.{MarkKind}
@@ -19,15 +20,16 @@ use Rattle.serial_log.specs.History.{AreRecordsIn, Past, with_mark}
 use Rattle.serial_log.specs.Laws.{HistoriesGoOn, MarksJoinUp, TurnsGoOn}
 use Rattle.serial_log.specs.Legal.{AreMarksLegal, IsLegalMark}
 use Rattle.serial_log.specs.Marks.{boot_times, raised_by, raised_postings}
-use Rattle.serial_log.specs.Postings.{FollowsLost, IsLegalAnswer, IsLegalPost, Terms}
-use Rattle.serial_log.specs.Progresses.{Settled, settled_of}
+use Rattle.serial_log.specs.Postings.{FollowsLost, IsDue, IsLegalAnswer, IsLegalPost, Terms}
+use Rattle.serial_log.specs.Progresses.{IsServedFirst, Settled, awaited_of, settled_of}
 use Rattle.serial_log.specs.Scripted.{Sent, ends_from, of_device, sent_as}
 use Rattle.serial_log.specs.Standing.{Standing, after_answer, after_kind, after_mark, one_more_of, opening, standing_of}
 use Rattle.serial_log.specs.Walk.{walk}
 use Rattle.coati_device.specs.declared.device.Phase.{Phase}
 use Rattle.coati_device.specs.declared.device.Phase.TheVariants.{Choose}
 use Rattle.coati_device.specs.OpenUnit.{has_unit}
-use Rattle.coati_device.specs.Points.{AreBootsTold, IsLegalBy, IsOfTask, ServesInTurn}
+use Rattle.coati_device.specs.Points.{AreBootsTold, IsLegalBy, IsOfTask, ServesInTurn, TakeTurns}
+use Rattle.coati_device.proofs.LeftAttempts.{due_stays}
 use Rattle.coati_device.proofs.Times.{take_ends}
 
 -- how many postings of a device these are
@@ -56,7 +58,8 @@ one_counted device counts posted = elim (cases_eq posted.device device) [
 ]
 
 answer_counted : (device : ℕ) (s : Standing) (posted : Raised) (answer : Answer)
-    → (after_answer s posted answer).raised device ≡ s.raised device + count_in device (posted ∷ [])
+    → (after_answer s posted answer).raised device
+    ≡ s.raised device + count_in device (posted ∷ [])
 answer_counted device s posted (Accepted number) = one_counted device s.raised posted
 answer_counted device s posted Full = one_counted device s.raised posted
 answer_counted device s posted (Lost boot) = one_counted device s.raised posted
@@ -225,8 +228,10 @@ module _ (go_on : HistoriesGoOn) (turns : TurnsGoOn) (join : MarksJoinUp) (terms
           order = tt;
         };
         aborts = tt;
-        boots =
-            record { counted = omega (arith, counted, boots); later = omega (arith, behind, last) };
+        boots = record {
+          counted = omega (arith, counted, boots);
+          later = omega (arith, behind, last);
+        };
         end = tt;
       } in
       let booted = booted_standing marks at boot in
@@ -276,12 +281,12 @@ module _ (go_on : HistoriesGoOn) (turns : TurnsGoOn) (join : MarksJoinUp) (terms
       }
 
   -- events are served in turn with a posting more
-  pub posted_turns : (s t : State) (phase : Phase) (marks : List Mark) (at : ℕ) (posted : Raised)
+  serves_posted : (s t : State) (phase : Phase) (marks : List Mark) (at : ℕ) (posted : Raised)
       → has_unit t ≡ has_unit s
       → IsLegalPost terms (standing_of terms.program marks) at posted
       → ServesInTurn terms.program s phase marks
       → ServesInTurn terms.program t phase (marks ++ posted_at at posted ∷ [])
-  posted_turns s t phase marks at posted unit legal h =
+  serves_posted s t phase marks at posted unit legal h =
       let mark : Mark = posted_at at posted in
       let standing = posted_standing marks at posted in
       let takes = turns terms.program marks mark in
@@ -315,10 +320,10 @@ module _ (go_on : HistoriesGoOn) (turns : TurnsGoOn) (join : MarksJoinUp) (terms
       }
 
   -- and with a boot more
-  pub booted_turns : (s : State) (phase : Phase) (marks : List Mark) (at number : ℕ)
+  serves_booted : (s : State) (phase : Phase) (marks : List Mark) (at number : ℕ)
       → ServesInTurn terms.program s phase marks
       → ServesInTurn terms.program s Choose (marks ++ boot_at at number ∷ [])
-  booted_turns s phase marks at number h =
+  serves_booted s phase marks at number h =
       let mark : Mark = boot_at at number in
       let standing = booted_standing marks at number in
       let takes = turns terms.program marks mark in
@@ -346,3 +351,75 @@ module _ (go_on : HistoriesGoOn) (turns : TurnsGoOn) (join : MarksJoinUp) (terms
             (standing_of terms.program marks).rest) (sym settled)
             (h.later was));
       }
+
+  -- a posting that is accepted comes behind those that wait
+  answer_due : (s : Standing) (posted : Raised) (answer : Answer) (posting : ℕ)
+      → IsDue s.rest posting → IsDue (after_answer s posted answer).rest posting
+  answer_due s posted (Accepted number) posting due =
+      let newest : Held =
+      record { number = number; event = posted.event; argument = posted.argument } in
+      record {
+        oldest = due.oldest;
+        due = due_stays s.rest (newest ∷ []) due.oldest due.due;
+        number = due.number;
+      }
+  answer_due s posted Full posting due = due
+  answer_due s posted (Lost boot) posting due = due
+
+  -- tasks and events take turns with a posting more
+  pub posted_turns : (s t : State) (phase : Phase) (marks : List Mark) (at : ℕ) (posted : Raised)
+      → has_unit t ≡ has_unit s → mode t ≡ mode s
+      → IsLegalPost terms (standing_of terms.program marks) at posted
+      → TakeTurns terms.program s phase marks
+      → TakeTurns terms.program t phase (marks ++ posted_at at posted ∷ [])
+  posted_turns s t phase marks at posted unit same legal h =
+      let mark : Mark = posted_at at posted in
+      let takes = turns terms.program marks mark in
+      let standing = posted_standing marks at posted in
+      record {
+        split = λ split.
+            serves_posted s t phase marks at posted unit legal (h.split (sym same ∙ split));
+        buffi = λ buffi. takes.buffi (h.buffi (sym same ∙ buffi)) (λ ends. absurd ends);
+        aborts = takes.aborts h.aborts (served_by_posted (awaited_of marks));
+        awaits = λ posting awaited.
+            let was = h.awaits posting (sym takes.awaited ∙ awaited) in
+            record {
+              mode = same ∙ was.mode;
+              chooses = was.chooses;
+              no_unit = unit ∙ was.no_unit;
+              due =
+                  subst (λ (x : Standing). IsDue x.rest posting) (sym standing)
+                  (answer_due (standing_of terms.program marks) posted posted.answer posting
+                  was.due);
+            };
+      }
+    where
+      served_by_posted : (awaited : Option ℕ) → IsServedFirst awaited (Posted posted)
+      served_by_posted None = tt
+      served_by_posted (Some posting) = tt
+
+  -- and with a boot more
+  pub booted_turns : (s : State) (phase : Phase) (marks : List Mark) (at number : ℕ)
+      → TakeTurns terms.program s phase marks
+      → TakeTurns terms.program s Choose (marks ++ boot_at at number ∷ [])
+  booted_turns s phase marks at number h =
+      let mark : Mark = boot_at at number in
+      let takes = turns terms.program marks mark in
+      let standing = booted_standing marks at number in
+      record {
+        split = λ split. serves_booted s phase marks at number (h.split split);
+        buffi = λ buffi. takes.buffi (h.buffi buffi) (λ ends. absurd ends);
+        aborts = takes.aborts h.aborts (served_by_boot (awaited_of marks));
+        awaits = λ posting awaited.
+            let was = h.awaits posting (sym takes.awaited ∙ awaited) in
+            record {
+              mode = was.mode;
+              chooses = refl;
+              no_unit = was.no_unit;
+              due = subst (λ (x : Standing). IsDue x.rest posting) (sym standing) was.due;
+            };
+      }
+    where
+      served_by_boot : (awaited : Option ℕ) → IsServedFirst awaited (Boot number)
+      served_by_boot None = tt
+      served_by_boot (Some posting) = tt

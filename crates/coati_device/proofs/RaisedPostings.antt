@@ -8,7 +8,7 @@ use Rattle.task_syntax.specs.declared.program.Event.{Event}
 use Rattle.task_syntax.specs.declared.program.Program.{Program}
 use Rattle.task_check.specs.Accepted.{IsAccepted}
 use Rattle.task_check.specs.Numbers.{buffer_size}
-use Rattle.task_cost.specs.Bodies.{top_cost}
+use Rattle.task_cost.specs.Bodies.{event_cost, top_cost}
 use Rattle.codegen.specs.Bodies.{program_code}
 use Rattle.codegen.specs.ProgramLaws.{TopHalvesComputeTheirCourse}
 use Rattle.nv_memory.specs.Ring.{Entry, held_entries}
@@ -39,13 +39,16 @@ use Rattle.coati_device.specs.Laws.{ArePeriods, HasRaisedOne, TicksKeepRoom, Tic
 use Rattle.coati_device.specs.Points.{AreHeld, HasRoomFor, IsFit, IsLegalBy, IsSound, IsSoundBy, IsTimed, reads_of}
 use Rattle.coati_device.specs.Raises.{Handles, Raises, first_hand}
 use Rattle.coati_device.specs.Raises.Raises.{fulls, handles}
+use Rattle.coati_device.specs.HeldEvents.{EventsFit}
 use Rattle.coati_device.specs.Ticks.{cut, passed, ticked}
+use Rattle.coati_device.specs.Waits.{Waits}
 use Rattle.coati_device.proofs.CursorMoves.{cursors_move, cursors_stay, next_is_own}
-use Rattle.coati_device.proofs.Handlers.{AreLaws, HasAnswered, Handler, IsHandling, IsLost, IsTaken, is_decided}
+use Rattle.coati_device.proofs.HandlerSteps.{AreLaws, Handler}
+use Rattle.coati_device.proofs.Handlers.{HasAnswered, IsHandling, IsLost, IsRoomy, IsTaken, is_decided}
 use Rattle.coati_device.proofs.PostedMarks.{boot_at, booted_standing, booted_told, booted_turns, lost_legal, posted_at, posted_legal, posted_standing, posted_told, posted_turns, raised_counted}
 use Rattle.coati_device.proofs.Tests.{same_by_test}
 use Rattle.coati_device.proofs.Times.{boots_low, ends_now, is_cut, is_later}
-use Rattle.coati_device.proofs.TopHalves.{starts_in_top, top_in_bound}
+use Rattle.coati_device.proofs.TopHalves.{halves_in_bound, starts_in_top}
 
 -- as many postings wait as entries are held
 rest_length : (program : Program) (entries : List Entry) (rest : List Held)
@@ -130,14 +133,20 @@ module _ (go_on : HistoriesGoOn) (turns : TurnsGoOn) (join : MarksJoinUp) (ticks
   }
 
   -- the device with another image and other numbers
-  abbrev decided : Memory → (clock until accepted spare : ℕ) → Device
-  decided image clock until accepted spare =
-      record old { image = image; clock = clock; until = until; accepted = accepted; spare = spare }
+  abbrev decided : Memory → Waits → (clock until accepted spare : ℕ) → Device
+  decided image waiting clock until accepted spare = record old {
+    image = image;
+    waiting = waiting;
+    clock = clock;
+    until = until;
+    accepted = accepted;
+    spare = spare;
+  }
 
-  abbrev answered_by : Memory → (clock until accepted spare at : ℕ) → Answer → Device
-  answered_by image clock until accepted spare at answer =
+  abbrev answered_by : Memory → Waits → (clock until accepted spare at : ℕ) → Answer → Device
+  answered_by image waiting clock until accepted spare at answer =
       answered postings device posting old.clock at answer
-      (decided image clock until accepted spare)
+      (decided image waiting clock until accepted spare)
 
   legal_post : (at : ℕ) (answer : Answer) → IsLegalAnswer terms standing at old.clock answer
       → IsLegalPost terms standing at (posted answer)
@@ -166,10 +175,11 @@ module _ (go_on : HistoriesGoOn) (turns : TurnsGoOn) (join : MarksJoinUp) (ticks
       omega (arith, some, slots, held, waiting)
 
   -- the cursors behind the mark
-  moved_cursors : (image : Memory) (clock until accepted spare at : ℕ) (answer : Answer)
-      → AreCursors postings (answered_by image clock until accepted spare at answer).history.marks
-      (answered_by image clock until accepted spare at answer).cursors
-  moved_cursors image clock until accepted spare at answer =
+  moved_cursors : (image : Memory) (waiting : Waits) (clock until accepted spare at : ℕ)
+      (answer : Answer) → AreCursors postings
+      (answered_by image waiting clock until accepted spare at answer).history.marks
+      (answered_by image waiting clock until accepted spare at answer).cursors
+  moved_cursors image waiting clock until accepted spare at answer =
       let marks = old.history.marks in
       let more = marks ++ posted_at at (posted answer) ∷ [] in
       let raised = (join marks (posted_at at (posted answer) ∷ [])).raised in
@@ -185,17 +195,22 @@ module _ (go_on : HistoriesGoOn) (turns : TurnsGoOn) (join : MarksJoinUp) (ticks
       }) (sym own))
 
   -- what a device that was answered keeps, its time aside
-  room_answered : (image : Memory) (clock until accepted spare at left : ℕ) (answer : Answer)
-      → left + 1 ≤ old.spare
-      → HasRoomFor left periods (answered_by image clock until accepted spare at answer)
-  room_answered image clock until accepted spare at left answer low =
+  room_answered : (image : Memory) (waiting : Waits) (clock until accepted spare at left : ℕ)
+      (answer : Answer) → left + 1 + clock ≤ old.spare + old.clock → old.clock ≤ clock
+      → IsRoomy old waiting (clock + 1)
+      → HasRoomFor left periods
+      (answered_by image waiting clock until accepted spare at answer)
+  room_answered image waiting clock until accepted spare at left answer low later waits =
       let room = can.room in
+      let more = waits.count in
       record {
-        marks = let m = room.marks in omega (arith, m, low);
-        attempt = let m = room.attempt in omega (arith, m, low);
-        unit = let m = room.unit in omega (arith, m, low);
-        records = let m = room.records in omega (arith, m, low);
-        few = let m = room.few in omega (arith, m, low);
+        marks = let m = room.marks in omega (arith, m, low, later);
+        attempt = let m = room.attempt in omega (arith, m, low, later);
+        unit = let m = room.unit in omega (arith, m, low, later);
+        waiting = let m = room.waiting in let w = waits.room in omega (arith, m, w, low);
+        places = let m = room.places in let w = waits.places in omega (arith, m, w, low, later);
+        records = let m = room.records in omega (arith, m, low, more);
+        few = let m = room.few in omega (arith, m, low, more);
       }
 
   -- the standing behind a posting that isn't accepted fits as the one before
@@ -211,7 +226,6 @@ module _ (go_on : HistoriesGoOn) (turns : TurnsGoOn) (join : MarksJoinUp) (ticks
       })
   fits_still m phase boots last_boot latest raised lost fit = record {
     memory = fit.memory;
-    not_doomed = fit.not_doomed;
     stands = record { words = fit.stands.words; place = fit.stands.place; held = fit.stands.held };
     waiting = record { few = fit.waiting.few; numbered = fit.waiting.numbered };
     place = fit.place;
@@ -223,7 +237,6 @@ module _ (go_on : HistoriesGoOn) (turns : TurnsGoOn) (join : MarksJoinUp) (ticks
       → IsFit terms.program code m (reads_of old) Choose standing
   chooses m phase fit = record {
     memory = fit.memory;
-    not_doomed = fit.not_doomed;
     stands = fit.stands;
     waiting = fit.waiting;
     place = fit.place;
@@ -232,9 +245,12 @@ module _ (go_on : HistoriesGoOn) (turns : TurnsGoOn) (join : MarksJoinUp) (ticks
   }
 
   -- the buffer is full
-  full_sound : is_full (state old.image) ≡ true
-      → IsSound terms code periods
-      (answered_by old.image old.clock old.until old.accepted (old.spare - 1) old.clock Full)
+  abbrev refused : Device
+  refused =
+      answered_by old.image old.waiting old.clock old.until old.accepted (old.spare - 1) old.clock
+      Full
+
+  full_sound : is_full (state old.image) ≡ true → IsSound terms code periods refused
   full_sound full =
       let fit = can.sound.fit in
       let held = same_by_test (length (held_entries (state old.image))) old.image.k full in
@@ -243,11 +259,17 @@ module _ (go_on : HistoriesGoOn) (turns : TurnsGoOn) (join : MarksJoinUp) (ticks
       let legal =
       legal_post old.clock Full (record
       { full = omega (arith, held, slots, waiting); at_once = refl }) in
-      let same = posted_standing go_on turns join terms old.history.marks old.clock (posted Full) in
+      let same =
+      posted_standing go_on turns join terms old.history.marks old.clock (posted Full) in
       record {
         fit =
             subst (IsFit terms.program code old.image (reads_of old) old.phase) (sym same)
             (fits_still old.image old.phase _ _ _ _ _ fit);
+        mode = can.sound.mode;
+        events =
+            subst (λ (s : Standing). EventsFit terms.program (state old.image) s
+            old.waiting.events) (sym same)
+            can.sound.events;
         legal =
             posted_legal go_on turns join terms old.history old.clock old.clock (posted Full)
             can.sound.legal (omega arith)
@@ -255,16 +277,15 @@ module _ (go_on : HistoriesGoOn) (turns : TurnsGoOn) (join : MarksJoinUp) (ticks
         turns =
             posted_turns go_on turns join terms (state old.image) (state old.image) old.phase
             old.history.marks old.clock
-            (posted Full) refl legal can.sound.turns;
+            (posted Full) refl refl legal can.sound.turns;
         accepted = ap (λ (s : Standing). s.accepted) same ∙ can.sound.accepted;
         timed = can.sound.timed;
         boots =
-            posted_told go_on turns join terms periods old.boots old.history old.clock (posted Full)
-            can.sound.boots;
+            posted_told go_on turns join terms periods old.boots old.history old.clock
+            (posted Full) can.sound.boots;
       }
 
-  pub full_keeps : (new : Device) → is_full (state old.image) ≡ true
-      → new ≡ answered_by old.image old.clock old.until old.accepted (old.spare - 1) old.clock Full
+  pub full_keeps : (new : Device) → is_full (state old.image) ≡ true → new ≡ refused
       → HasRaisedOne terms periods postings old new
   full_keeps new full is =
       let enough = can.spare in
@@ -272,10 +293,12 @@ module _ (go_on : HistoriesGoOn) (turns : TurnsGoOn) (join : MarksJoinUp) (ticks
       rw is (record {
         sound = full_sound full;
         cursors =
-            moved_cursors old.image old.clock old.until old.accepted (old.spare - 1) old.clock Full;
+            moved_cursors old.image old.waiting old.clock old.until old.accepted (old.spare - 1)
+            old.clock Full;
         room =
-            room_answered old.image old.clock old.until old.accepted (old.spare - 1) old.clock
-            (old.spare - 1) Full (omega (arith, some));
+            room_answered old.image old.waiting old.clock old.until old.accepted (old.spare - 1)
+            old.clock (old.spare - 1) Full (omega (arith, some)) (omega arith)
+            (record { room = omega arith; places = omega arith; count = omega arith });
         steps = refl;
         spare = omega (arith, some);
         time = omega (arith, some);
@@ -299,17 +322,22 @@ module _ (go_on : HistoriesGoOn) (turns : TurnsGoOn) (join : MarksJoinUp) (ticks
       start = old;
     }
 
-    module _ (image : Memory) (clock until accepted spare : ℕ)
+    module _ (image : Memory) (waiting : Waits) (clock until accepted spare : ℕ)
         (timed : IsTimed periods clock old.boots until)
         (later : old.clock ≤ clock) (soon : clock + 1 ≤ old.clock + terms.handler) where
+      abbrev ran : Device
+      ran = decided image waiting clock until accepted spare
+
+      abbrev told : Answer → Device
+      told answer = answered_by image waiting clock until accepted spare (clock + 1) answer
+
       -- and its posting was accepted
-      taken_sound : (number : ℕ) → IsTaken handler number (decided image clock until accepted spare)
-          → IsSoundBy terms code periods (clock + 1)
-          (answered_by image clock until accepted spare (clock + 1) (Accepted number))
+      taken_sound : (number : ℕ) → IsTaken handler number ran
+          → IsSoundBy terms code periods (clock + 1) (told (Accepted number))
       taken_sound number taken =
-          let told = can.sound.accepted in
+          let counted = can.sound.accepted in
           let new_number = taken.numbered in
-          let numbered : number ≡ standing.accepted + 1 = omega (arith, told, new_number) in
+          let numbered : number ≡ standing.accepted + 1 = omega (arith, counted, new_number) in
           let legal = legal_post (clock + 1) (Accepted number) (record {
             handled = record { room = has_room room; later = omega (arith, later); soon = soon };
             numbered = numbered;
@@ -325,6 +353,10 @@ module _ (go_on : HistoriesGoOn) (turns : TurnsGoOn) (join : MarksJoinUp) (ticks
             fit =
                 subst (IsFit terms.program code image (reads_of old) old.phase) (sym same)
                 still.fit;
+            mode = still.mode ∙ can.sound.mode;
+            events =
+                subst (λ (s : Standing). EventsFit terms.program (state image) s waiting.events)
+                (sym same) still.events;
             legal =
                 posted_legal go_on turns join terms old.history old.clock (clock + 1)
                 (posted (Accepted number))
@@ -332,10 +364,10 @@ module _ (go_on : HistoriesGoOn) (turns : TurnsGoOn) (join : MarksJoinUp) (ticks
             turns =
                 posted_turns go_on turns join terms (state old.image) (state image) old.phase
                 old.history.marks (clock + 1)
-                (posted (Accepted number)) still.unit legal can.sound.turns;
+                (posted (Accepted number)) still.unit still.mode legal can.sound.turns;
             accepted =
                 ap (λ (s : Standing). s.accepted) same
-                ∙ ap (λ (n : ℕ). n + 1) told
+                ∙ ap (λ (n : ℕ). n + 1) counted
                 ∙ sym taken.accepted;
             timed = timed;
             boots =
@@ -345,9 +377,8 @@ module _ (go_on : HistoriesGoOn) (turns : TurnsGoOn) (join : MarksJoinUp) (ticks
           }
 
       -- or lost by a cut
-      lost_sound : (boot : ℕ) → IsLost handler boot (decided image clock until accepted spare)
-          → IsSound terms code periods
-          (ticked periods (answered_by image clock until accepted spare (clock + 1) (Lost boot)))
+      lost_sound : (boot : ℕ) → IsLost handler boot ran
+          → IsSound terms code periods (ticked periods (told (Lost boot)))
       lost_sound boot lost =
           let one : until ≡ 1 = lost.until in
           let number : boot ≡ old.boots + 1 = lost.numbered in
@@ -377,6 +408,11 @@ module _ (go_on : HistoriesGoOn) (turns : TurnsGoOn) (join : MarksJoinUp) (ticks
             fit =
                 subst (IsFit terms.program code image (reads_of old) Choose) (sym behind)
                 (fits_still image Choose _ _ _ _ _ (chooses image old.phase lost.still.fit));
+            mode = lost.still.mode ∙ can.sound.mode;
+            events =
+                subst (λ (s : Standing). EventsFit terms.program (state image) s waiting.events)
+                (sym behind)
+                lost.still.events;
             legal =
                 subst (λ (n : ℕ). IsLegalBy terms (with_mark past (boot_at (clock + 1) n))
                 (clock + 1)) number
@@ -389,7 +425,7 @@ module _ (go_on : HistoriesGoOn) (turns : TurnsGoOn) (join : MarksJoinUp) (ticks
                 (old.boots + 1)
                 (posted_turns go_on turns join terms (state old.image) (state image) old.phase
                 old.history.marks (clock + 1)
-                (posted (Lost boot)) lost.still.unit legal can.sound.turns);
+                (posted (Lost boot)) lost.still.unit lost.still.mode legal can.sound.turns);
             accepted =
                 ap (λ (s : Standing). s.accepted) behind ∙ can.sound.accepted ∙ sym lost.accepted;
             timed = is_cut periods clock old.boots until can.periods_are timed one;
@@ -400,41 +436,36 @@ module _ (go_on : HistoriesGoOn) (turns : TurnsGoOn) (join : MarksJoinUp) (ticks
                 can.sound.boots);
           })
 
-      ticked_sound : (answer : Answer)
-          → HasAnswered handler answer (decided image clock until accepted spare)
-          → IsSound terms code periods
-          (ticked periods (answered_by image clock until accepted spare (clock + 1) answer))
+      ticked_sound : (answer : Answer) → HasAnswered handler answer ran
+          → IsSound terms code periods (ticked periods (told answer))
       ticked_sound (Accepted number) taken =
-          ticks terms periods (answered_by image clock until accepted spare (clock + 1)
-          (Accepted number)) can.periods_are
-          can.accepted (taken_sound number taken)
+          ticks terms periods (told (Accepted number)) can.periods_are can.accepted
+          (taken_sound number taken)
       ticked_sound Full none = absurd none
       ticked_sound (Lost boot) lost = lost_sound boot lost
 
-      ticked_keeps : (answer : Answer)
-          → HasAnswered handler answer (decided image clock until accepted spare)
+      ticked_keeps : (answer : Answer) → HasAnswered handler answer ran
           → spare + clock ≡ old.spare + old.clock → 0 < spare
           → clock + 1 ≤ old.clock + handler_steps terms.program
-          → HasRaisedOne terms periods postings old
-          (ticked periods (answered_by image clock until accepted spare (clock + 1) answer))
-      ticked_keeps answer came all some bound =
-          let d = answered_by image clock until accepted spare (clock + 1) answer in
+          → IsRoomy old waiting (clock + 1)
+          → HasRaisedOne terms periods postings old (ticked periods (told answer))
+      ticked_keeps answer came all some bound waits =
+          let d = told answer in
           let time = time_leaves join periods d in
           let spare_is = time.spare in
           let clock_is = time.clock in
-          let fewer : spare - 1 + 1 ≤ old.spare = omega (arith, all, some, later) in
           record {
             sound = ticked_sound answer came;
             cursors =
                 subst (AreCursors postings (ticked periods d).history.marks) (sym time.cursors)
                 (cursors_stay postings d.history.marks (ticked periods d).history.marks d.cursors
                 time.raised
-                (moved_cursors image clock until accepted spare (clock + 1) answer));
+                (moved_cursors image waiting clock until accepted spare (clock + 1) answer));
             room =
                 subst (λ (left : ℕ). HasRoomFor left periods (ticked periods d)) (sym time.spare)
                 (rooms (spare - 1) periods d timed
-                (room_answered image clock until accepted spare (clock + 1) (spare - 1) answer
-                fewer));
+                (room_answered image waiting clock until accepted spare (clock + 1) (spare - 1)
+                answer (omega (arith, all, some)) later waits));
             steps = time.steps;
             spare = omega (arith, spare_is, all, some, bound);
             time = omega (arith, spare_is, clock_is, all, some);
@@ -442,8 +473,8 @@ module _ (go_on : HistoriesGoOn) (turns : TurnsGoOn) (join : MarksJoinUp) (ticks
               marks =
                   let (more, is) = time.marks in (
                     posted_at (clock + 1) (posted answer) ∷ more,
-                    sym (append_assoc old.history.marks (posted_at (clock + 1) (posted answer) ∷ [])
-                        more) ∙ is,
+                    sym (append_assoc old.history.marks
+                        (posted_at (clock + 1) (posted answer) ∷ []) more) ∙ is,
                   );
               kept = λ committed has.
                   ap (λ list. readings_in list committed) time.readings;
@@ -453,7 +484,7 @@ module _ (go_on : HistoriesGoOn) (turns : TurnsGoOn) (join : MarksJoinUp) (ticks
     module _ (laws : AreLaws) (computes : TopHalvesComputeTheirCourse) (cpu : Cpu)
         (start : IsAtStart (body.Top posting.event) (posting.argument ∷ []) cpu) where
       abbrev bound : ℕ
-      bound = top_cost terms.program event + 8
+      bound = event_cost terms.program event + 9
 
       at_first : IsHandling handler periods bound (first_hand terms.program cpu) old
       at_first = record {
@@ -465,12 +496,21 @@ module _ (go_on : HistoriesGoOn) (turns : TurnsGoOn) (join : MarksJoinUp) (ticks
               can.accepted declared start;
           in_time = omega arith;
           has_parts = record {
-            still = record { fit = can.sound.fit; unit = refl };
-            room = room;
+            has_room = record {
+              still = record {
+                fit = can.sound.fit;
+                unit = refl;
+                mode = refl;
+                events = can.sound.events;
+              };
+              room = room;
+            };
             filled = laws.first (state old.image) (tail_slot (state old.image)) posting.event _;
           };
         };
         same = refl;
+        waited =
+            record { events = refl; places = refl; room = omega arith; made = omega arith };
         in_time = omega arith;
         clock = omega arith;
         spare = refl;
@@ -483,25 +523,25 @@ module _ (go_on : HistoriesGoOn) (turns : TurnsGoOn) (join : MarksJoinUp) (ticks
           mid)
           → HasRaisedOne terms periods postings old new
       handled_keeps new mid answer handling is =
-          let low = top_in_bound terms.program posting.event event declared in
+          let low = halves_in_bound terms.program posting.event event declared in
           let most = can.spare in
           let judged = can.bound in
           let enough : bound ≤ old.spare = omega (arith, low, most) in
           let came =
-          is_decided laws handler periods bound enough can.known declared
+          is_decided laws handler can.accepted declared periods bound enough can.known
           (first_hand terms.program cpu) mid answer at_first
           handling in
           let soon = came.in_time in
           let same : new ≡ ticked periods
-          (answered_by mid.image mid.clock mid.until mid.accepted mid.spare (mid.clock + 1)
-          answer) =
+          (answered_by mid.image mid.waiting mid.clock mid.until mid.accepted mid.spare
+          (mid.clock + 1) answer) =
           is ∙ ap (λ (x : Device). ticked periods
           (answered postings device posting old.clock (mid.clock + 1) answer x)) came.same in
           subst (HasRaisedOne terms periods postings old) (sym same)
-          (ticked_keeps mid.image mid.clock mid.until mid.accepted mid.spare came.timed came.clock
-          (omega (arith, soon, low, judged))
+          (ticked_keeps mid.image mid.waiting mid.clock mid.until mid.accepted mid.spare came.timed
+          came.clock (omega (arith, soon, low, judged))
           answer (subst (HasAnswered handler answer) came.same came.answered) came.spare came.some
-          (omega (arith, soon, low)))
+          (omega (arith, soon, low)) came.waits)
 
   -- the event of the posting is declared
   pub event_there : (event : Event) × (slice_get terms.program.events posting.event ≡ Some event)

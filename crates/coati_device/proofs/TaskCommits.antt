@@ -6,7 +6,7 @@ use Rattle.std.proofs.lemmas.Bool.Decides.{nat_tests}
 use Rattle.std.specs.Option.{option_map_or, unwrap_or}
 use Rattle.coati_word.specs.declared.reading.Reading.{Reading}
 use Rattle.task_syntax.specs.declared.program.Program.{Program}
-use Rattle.task_syntax.specs.CourseLaws.{AccessesJoinUp, LastWritesTellTheStore}
+use Rattle.task_syntax.specs.CourseLaws.{AccessesJoinUp, LastWritesTellTheStore, WrittenWordsAreTold}
 use Rattle.task_syntax.specs.Units.{Reached, first_task, is_inside, is_same, task_effect, tasks_effect, transaction_of, unless_inside, whole_effect}
 use Rattle.task_syntax.specs.Written.{last_written}
 use Rattle.task_check.specs.Accepted.{IsAccepted}
@@ -15,7 +15,7 @@ use Rattle.nv_memory.specs.Ring.{Entry, held_entries}
 use Rattle.nv_memory.specs.Seats.{Memory}
 use Rattle.nv_memory.specs.StandsFor.{place_of}
 use Rattle.nv_memory.specs.State.{State, set_to, state}
-use Rattle.nv_memory.specs.Words.{current, doomed, mark, mark_seat, next, opened, variable}
+use Rattle.nv_memory.specs.Words.{current, mark, mark_seat, next, opened, variable}
 use Rattle.commit_log.specs.OpenUnit.{unit_next}
 use Rattle.serial_log.specs.declared.held.Held.{Held}
 use Rattle.serial_log.specs.declared.mark.Mark.{Mark}
@@ -34,15 +34,17 @@ use Rattle.coati_device.specs.Endings.{MayLead}
 use Rattle.coati_device.specs.Endings.MayLead.{halts, goes}
 use Rattle.coati_device.specs.Kept.{adding, emptied, record_of_unit, unit_commit, unit_of, with_commit}
 use Rattle.coati_device.specs.Laws.{Fits}
-use Rattle.coati_device.specs.OpenUnit.{IsUnitPlace, OpenUnitFits, UnitFits}
+use Rattle.coati_device.specs.OpenUnit.{IsUnitPlace, OpenUnitFits, UnitFits, has_unit}
 use Rattle.coati_device.specs.Points.{AreHeld, AreLastAccepted, IsFit, Reads, StandsFor, reads_of}
-use Rattle.coati_device.specs.Rows.{Ends}
+use Rattle.coati_device.specs.Rows.{Ends, IsClear}
 use Rattle.coati_device.specs.TaskView.{HasWritten}
 use Rattle.coati_device.proofs.Grown.{HasGrown}
 use Rattle.coati_device.proofs.TaskEndings.{endings_lead}
+use Rattle.coati_device.proofs.TaskFlags.{SharesJoined}
 use Rattle.coati_device.proofs.TaskWords.{committed_is}
 use Rattle.coati_device.proofs.TaskWrites.{IsPut, put_by}
 use Rattle.coati_device.proofs.UnitGrows.{open_at_clear, place_closed, unit_grown}
+use Rattle.coati_device.proofs.UnitShares.{unit_shares}
 use Rattle.coati_device.proofs.MarkedMemory.{held_marked, marked, memory_marked, place_merged}
 
 -- members of one transaction have it both
@@ -55,10 +57,15 @@ same_of (Some tx) (Some other) same =
 next_is : (s : State) → mark s ≡ 0 → unit_next s ≡ current s
 next_is s clear = rw clear refl
 
+-- while a task is merged, its unit is open
+open_merged : (s : State) → IsClear s → has_unit (marked s 1) ≡ true
+open_merged s clear = rw clear.doomed refl
+
 -- what is known of the unit of the task to run
 pub record IsOfUnit (program : Program) (s : State) (stand : Stand) (finished : ℕ) : Type 0 where
   pub own : transaction_of program stand.place ≡ transaction_of program (current s)
-  pub first : transaction_of program (current s) ≡ None → (finished ≡ 0) × (current s ≡ stand.place)
+  pub first : transaction_of program (current s) ≡ None
+      → (finished ≡ 0) × (current s ≡ stand.place)
 
 unit_by : (program : Program) (s : State) (stand : Stand) (read : List Reading) (finished : ℕ)
     (is : Bool) → (opened s == 1) ≡ is → mark s ≡ 0 → place_of s ≡ stand.place
@@ -83,11 +90,11 @@ unit_by program s stand read finished false is clear at fits =
 
 pub unit_of_task : (program : Program) (m : Memory) (reads : Reads) (phase : Phase)
     (standing : Standing) → IsFit program (program_code program) m reads phase standing
-    → mark (state m) ≡ 0 → IsOfUnit program (state m) standing.run reads.finished
+    → IsClear (state m) → IsOfUnit program (state m) standing.run reads.finished
 unit_of_task program m reads phase standing fit clear =
     let s = state m in
     let is = opened s == 1 in
-    unit_by program s standing.run reads.unit reads.finished is refl clear fit.stands.place
+    unit_by program s standing.run reads.unit reads.finished is refl clear.mark fit.stands.place
     (subst (UnitFits program s standing.run reads.unit reads.finished)
     (open_at_clear s is clear refl) fit.unit)
 
@@ -154,7 +161,7 @@ unit_place program task place leads outside = elim leads [
 -- once the place behind the task that has ended is written
 module _ (program : Program) (m : Memory) (reads : Reads) (place : ℕ) (standing : Standing)
     (fit : IsFit program (program_code program) m reads (End place) standing)
-    (there : next (state m) ≡ place) where
+    (clear : IsClear (state m)) (there : next (state m) ≡ place) where
   abbrev task : ℕ
   task = current (state m)
 
@@ -168,7 +175,7 @@ module _ (program : Program) (m : Memory) (reads : Reads) (place : ℕ) (standin
   Grown = HasGrown program (state m) standing.run read (reads.finished + 1) place
 
   its_own : IsOfUnit program (state m) standing.run reads.finished
-  its_own = unit_of_task program m reads (End place) standing fit fit.attempt.at.clear.mark
+  its_own = unit_of_task program m reads (End place) standing fit clear
 
   -- whether the unit goes on at the place is the same for its first task and its last
   goes_inside : (grown : Grown)
@@ -179,14 +186,14 @@ module _ (program : Program) (m : Memory) (reads : Reads) (place : ℕ) (standin
 
   store_is : (word : ℕ) → variable (state m) word ≡ standing.run.store word
   store_is word =
-      sym (committed_is (state m) word fit.attempt.at.clear.mark) ∙ fit.stands.words word
+      sym (committed_is (state m) word clear.mark) ∙ fit.stands.words word
 
   -- the entries stay those of the postings
   held_stays : (value : ℕ) → (value == 3) ≡ false
       → AreHeld program (held_entries (marked (state m) value)) standing.rest
   held_stays value other =
       subst (λ (entries : List Entry). AreHeld program entries standing.rest)
-      (sym (held_marked (state m) value other fit.attempt.at.clear.mark)) fit.stands.held
+      (sym (held_marked (state m) value other clear.mark)) fit.stands.held
 
   -- the unit goes on
   module _ (at : ℕ) where
@@ -199,37 +206,40 @@ module _ (program : Program) (m : Memory) (reads : Reads) (place : ℕ) (standin
     stands_joined : StandsFor program (marked (state m) 1) joined
     stands_joined = record {
       words = store_is;
-      place = place_merged (state m) fit.attempt.at.clear.mark ∙ fit.stands.place;
+      place = place_merged (state m) clear.mark ∙ fit.stands.place;
       held = held_stays 1 refl;
     }
 
-    unit_joined : is_inside program task place ≡ true → Grown
+    unit_joined : is_inside program task place ≡ true → (grown : Grown)
+        → SharesJoined (state m) grown.whole.done
         → OpenUnitFits program (marked (state m) 1) joined.run read (reads.finished + 1)
-    unit_joined inside grown = record {
-      reached = grown.whole;
-      tasks = grown.tasks;
-      log = grown.log;
-      next = there ∙ sym grown.leads;
-      inside = goes_inside grown ∙ inside;
-      reads = grown.reads;
-    }
+    unit_joined inside grown shares =
+        subst (UnitFits program (marked (state m) 1) joined.run read (reads.finished + 1))
+        (sym (open_merged (state m) clear))
+        (record {
+          reached = grown.whole;
+          tasks = grown.tasks;
+          log = grown.log;
+          flags = shares;
+          next = there ∙ sym grown.leads;
+          inside = goes_inside grown ∙ inside;
+          reads = grown.reads;
+        })
 
-    fit_joined : (image : Memory) → is_inside program task place ≡ true → Grown
-        → IsPut m (set_to mark_seat 1) image
+    fit_joined : (image : Memory) → is_inside program task place ≡ true → (grown : Grown)
+        → SharesJoined (state m) grown.whole.done → IsPut m (set_to mark_seat 1) image
         → IsFit program (program_code program) image joined_reads Choose joined
-    fit_joined image inside grown wrote =
+    fit_joined image inside grown shares wrote =
         let back = sym wrote.state in
-        let clear = fit.attempt.at.clear in
         record {
           memory = memory_marked program m image 1 (omega arith) refl fit.memory clear wrote;
-          not_doomed = ap doomed wrote.state ∙ fit.not_doomed;
           stands = subst (λ (t : State). StandsFor program t joined) back stands_joined;
           waiting = record { few = fit.waiting.few; numbered = fit.waiting.numbered };
           place = fit.place;
           unit =
               subst
               (λ (t : State). OpenUnitFits program t joined.run read (reads.finished + 1)) back
-              (unit_joined inside grown);
+              (unit_joined inside grown shares);
           attempt = tt;
         }
 
@@ -290,11 +300,9 @@ module _ (program : Program) (m : Memory) (reads : Reads) (place : ℕ) (standin
         → IsFit program (program_code program) image no_reads Choose committed
     fit_committed accepted lasts image outside grown wrote =
         let back = sym wrote.state in
-        let clear = fit.attempt.at.clear in
         let run = run_is outside grown in
         record {
           memory = memory_marked program m image 2 (omega arith) refl fit.memory clear wrote;
-          not_doomed = ap doomed wrote.state ∙ fit.not_doomed;
           stands =
               subst (λ (t : State). StandsFor program t committed) back
               (stands_committed lasts grown run);
@@ -306,8 +314,8 @@ module _ (program : Program) (m : Memory) (reads : Reads) (place : ℕ) (standin
           attempt = tt;
         }
 
-module _ (joins : AccessesJoinUp) (lasts : LastWritesTellTheStore) (program : Program)
-    (old new : Device) (place : ℕ) (image : Memory) (fits : Fits program old)
+module _ (joins : AccessesJoinUp) (lasts : LastWritesTellTheStore) (tells : WrittenWordsAreTold)
+    (program : Program) (old new : Device) (place : ℕ) (image : Memory) (fits : Fits program old)
     (ends : Ends old place) (there : next (state old.image) ≡ place) where
   abbrev to_run : ℕ
   to_run = current (state old.image)
@@ -326,8 +334,13 @@ module _ (joins : AccessesJoinUp) (lasts : LastWritesTellTheStore) (program : Pr
       HasGrown program (state old.image) stands_at.run (old.unit.items ++ old.attempt.items)
       (old.finished + 1) place
   grown_at_end =
-      unit_grown program (program_code program) old.image (reads_of old) stands_at place joins lasts
-      fit_at_end
+      unit_grown program (program_code program) old.image (reads_of old) stands_at place fit_at_end
+      ends.clear joins lasts
+
+  shares_at_end : SharesJoined (state old.image) grown_at_end.whole.done
+  shares_at_end =
+      unit_shares program (program_code program) old.image (reads_of old) stands_at place
+      fit_at_end ends.clear joins lasts tells grown_at_end
 
   -- what a device fits with a mark more
   with_more : (reads : Reads) (told : Mark)
@@ -353,8 +366,8 @@ module _ (joins : AccessesJoinUp) (lasts : LastWritesTellTheStore) (program : Pr
   joins_keep inside wrote is =
       subst (λ (d : Device). Fits program d) (sym is)
       (with_more _ (record { at = old.clock + 1; kind = Done to_run })
-      (fit_joined program old.image (reads_of old) place stands_at fit_at_end there
-      (old.clock + 1) image inside grown_at_end
+      (fit_joined program old.image (reads_of old) place stands_at fit_at_end ends.clear
+      there (old.clock + 1) image inside grown_at_end shares_at_end
       (put_by old.image image (set_to mark_seat 1) fits.memory.memory wrote)))
 
   -- the row of a unit's commit
@@ -375,6 +388,6 @@ module _ (joins : AccessesJoinUp) (lasts : LastWritesTellTheStore) (program : Pr
       (with_more _
       (unit_commit old.history.readings (unit_of (transaction_of program to_run) to_run)
       (old.finished + 1) (old.unit.items ++ old.attempt.items) (old.clock + 1))
-      (fit_committed program old.image (reads_of old) place stands_at fit_at_end there
-      old.history.readings (old.clock + 1) accepted lasts image outside grown_at_end
+      (fit_committed program old.image (reads_of old) place stands_at fit_at_end ends.clear
+      there old.history.readings (old.clock + 1) accepted lasts image outside grown_at_end
       (put_by old.image image (set_to mark_seat 2) fits.memory.memory wrote)))

@@ -152,7 +152,8 @@ module _ (program : Program) (task : ℕ) where
       rw (S.fold-roll-Stmt Conduct (statement_step program) x)
       (ways (rw (S.fold-roll-Stmt (List ℕ) (into_step program own) x) at none) locals)
 
-  assign_ways : (place : Place) (e : Expr) → Ways (statement_step program (S.Stmt-F.Assign place e))
+  assign_ways : (place : Place) (e : Expr)
+      → Ways (statement_step program (S.Stmt-F.Assign place e))
   assign_ways place e locals =
       answers_behind IsWay (aim program place locals)
       (λ a. chain (expression program e locals) (assigned locals a))

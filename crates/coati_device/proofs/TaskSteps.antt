@@ -1,12 +1,12 @@
 -- A step of the machine in a task keeps what a device keeps.
-use Rattle.std.proofs.Common.{◌≡◌, ℕ, List, [], ◌++◌, length, Some, None, refl, sym, ap, subst, ◌∙◌, append-nil}
+use Rattle.std.proofs.Common.{◌≡◌, ℕ, List, [], ◌++◌, length, Some, None, inl, refl, sym, ap, subst, ◌∙◌, append-nil}
 use Rattle.std.specs.Option.{option_or}
 use Rattle.coati_word.specs.declared.ending.Ending.{Ending}
 use Rattle.coati_word.specs.declared.reading.Reading.{Reading}
 use Rattle.task_syntax.specs.declared.program.Program.{Program}
 use Rattle.task_syntax.specs.declared.body.BodyId.TheVariants.{Task}
 use Rattle.task_syntax.specs.Course.{Access, Store, readings}
-use Rattle.task_syntax.specs.CourseLaws.{AccessesJoinUp, CoursesUnderWayGoOn}
+use Rattle.task_syntax.specs.CourseLaws.{AccessesJoinUp, CoursesUnderWayGoOn, WrittenWordsAreTold}
 use Rattle.task_syntax.specs.Names.{tasks}
 use Rattle.task_syntax.specs.Units.{place_after, task_course}
 use Rattle.task_syntax.specs.Written.{last_written}
@@ -19,6 +19,7 @@ use Rattle.nv_memory.specs.State.{State, state}
 use Rattle.nv_memory.specs.Words.{current, mark}
 use Rattle.serial_log.specs.declared.held.Held.{Held}
 use Rattle.serial_log.specs.Standing.{Standing, standing_of}
+use Rattle.buffi_sets.specs.Flags.{FlagWritesSetOneFlag}
 use Rattle.commit_log.specs.OpenUnit.{KeepsUnit}
 use Rattle.task_buffer.specs.StoreLaws.{StoresSetTheValue}
 use Rattle.codegen.specs.Bodies.{program_code}
@@ -37,7 +38,7 @@ use Rattle.word_cpu.proofs.UnderWay.{steps_under_way}
 use Rattle.coati_device.specs.declared.device.Device.{Device}
 use Rattle.coati_device.specs.declared.device.Phase.{Phase}
 use Rattle.coati_device.specs.declared.device.Phase.TheVariants.{Run}
-use Rattle.coati_device.specs.Attempt.{HasEnded, HasMade, IsAtTask, IsAttempt, IsRunning, base_word}
+use Rattle.coati_device.specs.Attempt.{HasEnded, HasMade, IsAtTask, IsAttempt, IsBehindTask, IsRunning, base_word}
 use Rattle.coati_device.specs.Kept.{Kept, after_turn}
 use Rattle.coati_device.specs.Laws.{Fits}
 use Rattle.coati_device.specs.OpenUnit.{has_unit}
@@ -45,7 +46,8 @@ use Rattle.coati_device.specs.Points.{AreHeld, IsFit, IsMemoryOf, Reads, StandsF
 use Rattle.coati_device.specs.Rows.{phase_after}
 use Rattle.coati_device.specs.TaskView.{task_view}
 use Rattle.coati_device.proofs.Attempts.{in_task, running_of}
-use Rattle.coati_device.proofs.OpenUnits.{open_unit_kept}
+use Rattle.coati_device.proofs.OpenUnits.{LeavesUnit, open_unit_kept}
+use Rattle.coati_device.proofs.TaskFlags.{FlagsMore, flags_joined, flags_more}
 use Rattle.coati_device.proofs.TaskWrites.{IsReadyForSteps, LeavesAllElse, MakesMore, base_stays, makes_more}
 
 -- memory is still one of the program
@@ -60,7 +62,7 @@ still_of program own m new more memory made =
       range = keeps.range;
       places = keeps.places (length (tasks program)) memory.places;
       closed = keeps.closed;
-      split = made.logs.else_stays.same_mode ∙ memory.split;
+      mode = rw made.logs.else_stays.same_mode memory.mode;
     }
 
 -- the open unit stays
@@ -74,7 +76,15 @@ still_unit s t clear stays =
     }
 
 still_open : (s t : State) → LeavesAllElse s t → has_unit t ≡ has_unit s
-still_open s t stays = rw (stays.same_mark, stays.same_opened) refl
+still_open s t stays = rw (stays.same_mark, stays.same_opened, stays.same_doomed) refl
+
+leaves_unit : (s t : State) → mark s ≡ 0 → LeavesAllElse s t → LeavesUnit s t
+leaves_unit s t clear stays = record {
+  unit = still_unit s t clear stays;
+  open_same = still_open s t stays;
+  mode_same = stays.same_mode;
+  words_same = stays.same_words;
+}
 
 still_stands : (program : Program) (s t : State) (standing : Standing) → StandsForTheSame s t
     → StandsFor program s standing → StandsFor program t standing
@@ -97,14 +107,12 @@ fit_on program own m new reads kept before after standing more fit clear makes a
     let stays = makes.logs.else_stays in
     record {
       memory = still_of program own m new more fit.memory makes;
-      not_doomed = stays.same_doomed ∙ fit.not_doomed;
       stands = still_stands program (state m) (state new) standing stays.keeps.meaning fit.stands;
       waiting = fit.waiting;
       place = fit.place;
       unit =
           open_unit_kept program (state m) (state new) standing.run reads.unit reads.finished
-          (still_unit (state m) (state new) clear stays) (still_open (state m) (state new) stays)
-          fit.unit;
+          (leaves_unit (state m) (state new) clear stays) fit.unit;
       attempt = attempt;
     }
 
@@ -126,20 +134,34 @@ read_after kept (Went (Some reading)) = refl
 read_after kept Storing = sym (append-nil kept.items)
 read_after kept (Ended ending) = sym (append-nil kept.items)
 
+-- a step stores into the task's log, and sets flags
+record StepsOn (m new : Memory) (more : List Access) : Type 0 where
+  makes : MakesMore log.Task m new more
+  flags : FlagsMore (state m) (state new) more
+
 -- the log has more accesses, and the attempt has read more
-made_on : AccessesJoinUp → (m new : Memory) (read reads : List Reading) (done more : List Access)
-    → HasMade (state m) read done → MakesMore log.Task m new more → readings more ≡ reads
+made_on : AccessesJoinUp → WrittenWordsAreTold → (m new : Memory) (read reads : List Reading)
+    (done more : List Access)
+    → HasMade (state m) read done → StepsOn m new more → readings more ≡ reads
     → HasMade (state new) (read ++ reads) (done ++ more)
-made_on joins m new read reads done more made makes same = record {
+made_on joins told m new read reads done more made steps same = record {
   log = λ word.
-      makes.logs.log word
+      steps.makes.logs.log word
       ∙ ap (option_or (last_written more word)) (made.log word)
       ∙ sym ((joins done more).last word);
   reads =
       ap (λ (r : List Reading). r ++ reads) made.reads
       ∙ ap (λ (r : List Reading). readings done ++ r) (sym same)
       ∙ sym (joins done more).read;
+  flags =
+      flags_joined joins told (state m) (state new) done more steps.makes.logs.else_stays
+      steps.flags made.log made.flags;
 }
+
+-- no commit and no undo is under way where a task has ended
+behind_task : (program : Program) (s : State) → IsAtTask program s → IsBehindTask program s
+behind_task program s at =
+    record { mark = inl at.clear.mark; doomed = at.clear.doomed; task = at.task }
 
 -- the body has ended
 ends_at : (program : Program) (m new : Memory) (read : List Reading) (done : List Access)
@@ -149,9 +171,10 @@ ends_at : (program : Program) (m new : Memory) (read : List Reading) (done : Lis
     → HasEnded program new (read ++ []) (place_after ending)
 ends_at program m new read done ending at made came =
     subst (λ (x : Memory). HasEnded program x (read ++ []) (place_after ending)) (sym came.view)
-    (subst (λ (r : List Reading). HasEnded program m r (place_after ending)) (sym (append-nil read))
+    (subst (λ (r : List Reading). HasEnded program m r (place_after ending))
+    (sym (append-nil read))
     (record {
-      at = at;
+      at = behind_task program (state m) at;
       made = subst (HasMade (state m) read) came.all made;
       leads = ap place_after came.ending_is;
     }))
@@ -176,18 +199,19 @@ module _ (program : Program) (m new : Memory) (read : List Reading) (before afte
       ComesOn task_view (program_code program) here.left (task_course program (current (state m)))
       (base_word (state m)) here.done before after m new turn
 
-  runs_on : AccessesJoinUp → after.body ≡ before.body → (turn : Turn) (came : Came turn)
-      → MakesMore log.Task m new came.more
+  runs_on : AccessesJoinUp → WrittenWordsAreTold → after.body ≡ before.body → (turn : Turn)
+      (came : Came turn) → StepsOn m new came.more
       → IsRunning program (program_code program) new (read ++ read_by turn) after
-  runs_on joins same turn came makes =
-      let stays = makes.logs.else_stays in
+  runs_on joins told same turn came steps =
+      let stays = steps.makes.logs.else_stays in
       let done = here.done ++ came.more in
       record {
         at = still_at program (state m) (state new) stays here.at;
         body = same ∙ here.body ∙ ap Task (sym stays.same_current);
         done = done;
         made =
-            made_on joins m new read (read_by turn) here.done came.more here.made makes came.reads;
+            made_on joins told m new read (read_by turn) here.done came.more here.made steps
+            came.reads;
         left = came.remaining;
         under_way =
             subst
@@ -200,31 +224,33 @@ module _ (program : Program) (m new : Memory) (read : List Reading) (before afte
       }
 
   -- it goes on
-  goes_on_in : (rest : List Held) → AccessesJoinUp → after.body ≡ before.body → (turn : Turn)
-      (came : Came turn) → MakesMore log.Task m new came.more
+  goes_on_in : (rest : List Held) → AccessesJoinUp → WrittenWordsAreTold
+      → after.body ≡ before.body → (turn : Turn) (came : Came turn) → StepsOn m new came.more
       → IsAttempt program (program_code program) new rest (read ++ read_by turn) (Run after)
-  goes_on_in rest joins same turn came makes =
+  goes_on_in rest joins told same turn came steps =
       in_task program (program_code program) new rest (read ++ read_by turn) after
-      (current (state m)) (same ∙ here.body) (runs_on joins same turn came makes)
+      (current (state m)) (same ∙ here.body) (runs_on joins told same turn came steps)
 
   -- what a step makes of the attempt
-  attempt_on : (rest : List Held) → AccessesJoinUp → after.body ≡ before.body → (instr : Instr)
+  attempt_on : (rest : List Held) → AccessesJoinUp → WrittenWordsAreTold
+      → after.body ≡ before.body → (instr : Instr)
       → StartsAt (body_words (program_code program) before.body) instr (state_of before)
       → (turn : Turn) → Comes turn
-      → MakesMore log.Task m new (done_by turn (move_of instr (state_of before)))
+      → StepsOn m new (done_by turn (move_of instr (state_of before)))
       → IsAttempt program (program_code program) new rest (read ++ read_by turn)
       (phase_after after turn)
-  attempt_on rest joins same instr starts (Went reading) came makes =
-      goes_on_in rest joins same (Went reading) came
-      (subst (MakesMore log.Task m new) (came.more_is instr starts) makes)
-  attempt_on rest joins same instr starts Storing came makes =
-      goes_on_in rest joins same Storing came
-      (subst (MakesMore log.Task m new) (came.more_is instr starts) makes)
-  attempt_on rest joins same instr starts (Ended ending) came makes =
+  attempt_on rest joins told same instr starts (Went reading) came steps =
+      goes_on_in rest joins told same (Went reading) came
+      (subst (StepsOn m new) (came.more_is instr starts) steps)
+  attempt_on rest joins told same instr starts Storing came steps =
+      goes_on_in rest joins told same Storing came
+      (subst (StepsOn m new) (came.more_is instr starts) steps)
+  attempt_on rest joins told same instr starts (Ended ending) came steps =
       ends_at program m new read here.done ending here.at here.made came
 
 -- the row of a machine step
-pub runs_keep : AccessesJoinUp → CoursesUnderWayGoOn Ending → FollowingGoesOn → StoresSetTheValue
+pub runs_keep : AccessesJoinUp → WrittenWordsAreTold → CoursesUnderWayGoOn Ending
+    → FollowingGoesOn → StoresSetTheValue → FlagWritesSetOneFlag
     → (program : Program) (old new : Device) (before after : Cpu) (image : Memory) (turn : Turn)
     → Fits program old → old.phase ≡ Run before → before.body ≡ Task (current (state old.image))
     → IsStep task_view (program_code program) before after old.image image turn
@@ -233,8 +259,8 @@ pub runs_keep : AccessesJoinUp → CoursesUnderWayGoOn Ending → FollowingGoesO
       phase = phase_after after turn;
       attempt = after_turn old.attempt turn;
     } → Fits program new
-runs_keep joins goes_on follows law program old new before after image turn fits running body step
-    is =
+runs_keep joins told goes_on follows law flags program old new before after image turn fits running
+    body step is =
     let m = old.image in
     let code = program_code program in
     let standing = standing_of program old.history.marks in
@@ -256,15 +282,22 @@ runs_keep joins goes_on follows law program old new before after image turn fits
       has = tt;
       other = λ e. absurd cc;
     } in
-    let makes =
-    makes_more m image ready law before after turn move can.1.can_run.word
-    (on_course.is_begun can.0 can.1.starts) (step.makes can.0 can.1.starts) in
+    let begun = on_course.is_begun can.0 can.1.starts in
+    let made = step.makes can.0 can.1.starts in
+    let steps : StepsOn m image (done_by turn move) =
+    record {
+      makes =
+          makes_more m image ready law flags before after turn move can.1.can_run.word begun made;
+      flags =
+          flags_more m image ready law flags before after turn move can.1.can_run.word begun made;
+    } in
     subst (λ (d : Device). Fits program d) (sym is)
     (fit_on program log.Task m image (reads_of old) (after_turn old.attempt turn).items old.phase
-    (phase_after after turn) standing (done_by turn move) fits here.at.clear.mark makes
+    (phase_after after turn) standing (done_by turn move) fits here.at.clear.mark
+    steps.makes
     (subst
     (λ (read : List Reading).
     IsAttempt program code image standing.rest read (phase_after after turn))
     (sym (read_after old.attempt turn))
-    (attempt_on program m image old.attempt.items before after here standing.rest joins step.body
-    can.0 can.1.starts turn came makes)))
+    (attempt_on program m image old.attempt.items before after here standing.rest joins told
+    step.body can.0 can.1.starts turn came steps)))

@@ -1,6 +1,5 @@
 -- What a step of a task or of a bottom half makes of memory: its own log has what its accesses
--- write
--- there, and all else stays but for flags.
+-- write there, and all else stays but for flags.
 use Rattle.std.proofs.Common.{◌≡◌, ◌≢◌, ◌==◌, ℕ, zero, suc, ◌<◌, List, [], ◌∷◌, Bool, true, false, Option, Some, None, if◌then◌else◌, length, refl, sym, ap, subst, ◌∙◌, arith, length-set}
 use Rattle.std.specs.Prelude.{slice_index}
 use Rattle.std.specs.Option.{option_or, unwrap_or}
@@ -12,13 +11,12 @@ use Rattle.nv_memory.specs.Logs.{HasLog, log_value}
 use Rattle.nv_memory.specs.Seats.{IsMemory, Memory}
 use Rattle.nv_memory.specs.StandsFor.{committed_word}
 use Rattle.nv_memory.specs.State.{Change, State, put, state}
-use Rattle.nv_memory.specs.Words.{current, doomed, head, mark, mode, opened, tx_flag}
+use Rattle.nv_memory.specs.Words.{attempt_flag, current, doomed, head, mark, mode, opened, tx_flag}
 use Rattle.nv_memory.specs.Ring.{held_count, is_taking}
 use Rattle.nv_memory.proofs.Frames.{same_beside}
 use Rattle.nv_memory.proofs.Puts.{puts_one_word}
-use Rattle.buffi_sets.specs.Flags.{flag_change}
+use Rattle.buffi_sets.specs.Flags.{FlagWritesSetOneFlag, flag_change}
 use Rattle.buffi_sets.specs.Keeps.{Keeps}
-use Rattle.buffi_sets.proofs.Flagging.{flag_set}
 use Rattle.task_buffer.specs.Stores.{IsBegun, store_change}
 use Rattle.task_buffer.specs.StoreLaws.{Stores, StoresSetTheValue}
 use Rattle.task_syntax.specs.Course.{Access}
@@ -57,6 +55,7 @@ put_by m new change memory wrote =
 
 -- all stays but one log, which isn't the transaction's, and flags
 pub record LeavesAllElse (s t : State) : Type 0 where
+  pub same_words : t.n ≡ s.n
   pub same_slots : t.k ≡ s.k
   pub same_mark : mark t ≡ mark s
   pub same_current : current t ≡ current s
@@ -116,6 +115,7 @@ keeps_all s range closed = record {
 logs_none : (own : Log) (s : State) → InRange s → IsClosed s → LogsMore own s s []
 logs_none own s range closed = record {
   else_stays = record {
+    same_words = refl;
     same_slots = refl;
     same_mark = refl;
     same_current = refl;
@@ -132,10 +132,11 @@ logs_none own s range closed = record {
 }
 
 -- a flag is set
-logs_none_by_flag : (s : State) (word : ℕ) → InRange s → IsClosed s
+logs_none_by_flag : FlagWritesSetOneFlag → (s : State) (word : ℕ) → InRange s → IsClosed s
     → LogsMore log.Task s (put s (flag_change word)) []
-logs_none_by_flag s word range closed = record {
+logs_none_by_flag flags s word range closed = record {
   else_stays = record {
+    same_words = refl;
     same_slots = refl;
     same_mark = refl;
     same_current = refl;
@@ -146,7 +147,7 @@ logs_none_by_flag s word range closed = record {
     same_held = refl;
     transaction = λ other. refl;
     tx_flags = λ other. refl;
-    keeps = (flag_set s word range closed).keeps;
+    keeps = (flags s word range closed).keeps;
   };
   log = λ other. refl;
 }
@@ -155,6 +156,7 @@ logs_none_by_flag s word range closed = record {
 beside_stays : (own : Log) (s t : State) → own ≢ log.Tx → mark s ≡ 0 → KeepsBeside own s t
     → InRange t → IsClosed t → LeavesAllElse s t
 beside_stays own s t other clear beside range closed = record {
+  same_words = beside.words;
   same_slots = beside.slots;
   same_mark = beside.same_mark;
   same_current = beside.same_current;
@@ -262,13 +264,28 @@ module _ (own : Log) (m new : Memory) (ready : IsReadyForSteps own m) where
       (subst (λ (done : Bool). Stores own word value part done s (put s change))
       (sym stored.last) stores))
 
+  -- such a part leaves the attempt's flags
+  pub part_leaves_flags : StoresSetTheValue → (word value part : ℕ) (is_last : Bool) → word < m.n
+      → (0 < part → IsBegun (state m) own word value part)
+      → HasStoredIn own m word value part new is_last
+      → (other : ℕ) → attempt_flag (state new) other ≡ attempt_flag (state m) other
+  part_leaves_flags law word value part is_last low begun stored other =
+      let s = state m in
+      let here = put_by m new (store_change s own word value part) ready.memory stored.wrote in
+      let stores =
+      law s own word value part ready.range ready.has low
+      (begun_by own s word value part begun) in
+      ap (λ (t : State). attempt_flag t other) here.state
+      ∙ ap (λ (flag : ℕ). flag == 1) (stores.beside.attempt_flags other)
+
 module _ (m new : Memory) (ready : IsReadyForSteps log.Task m) where
-  makes_load : (word : ℕ) (is : Bool) → IsAfter m (if is then Some (flag_change word) else None) new
+  makes_load : FlagWritesSetOneFlag → (word : ℕ) (is : Bool)
+      → IsAfter m (if is then Some (flag_change word) else None) new
       → MakesMore log.Task m new []
-  makes_load word true wrote =
+  makes_load flags word true wrote =
       makes_by log.Task m new ready (flag_change word) [] wrote
-      (logs_none_by_flag (state m) word ready.range ready.closed)
-  makes_load word false same = makes_none log.Task m new ready same
+      (logs_none_by_flag flags (state m) word ready.range ready.closed)
+  makes_load flags word false same = makes_none log.Task m new ready same
 
   task_part : StoresSetTheValue → (word value part : ℕ) (is_last : Bool)
       → word < length (task_words m)
@@ -280,24 +297,26 @@ module _ (m new : Memory) (ready : IsReadyForSteps log.Task m) where
       makes_part log.Task m new ready law word value part is_last (omega (arith, count, low))
 
   -- each step that makes a move, or a part of it
-  pub makes_more : StoresSetTheValue → (before after : Cpu) (turn : Turn) (move : Move)
-      → IsWithin (length (task_words m)) move → turning.IsBegun (task_view.begun m) before.part move
+  pub makes_more : StoresSetTheValue → FlagWritesSetOneFlag → (before after : Cpu) (turn : Turn)
+      (move : Move)
+      → IsWithin (length (task_words m)) move
+      → turning.IsBegun (task_view.begun m) before.part move
       → Makes task_view before after m new turn move
       → MakesMore log.Task m new (done_by turn move)
-  makes_more law before after turn (Move.goes next) within begun made =
+  makes_more law flags before after turn (Move.goes next) within begun made =
       makes_none log.Task m new ready made.view
-  makes_more law before after turn (Move.loads word next) within begun made =
+  makes_more law flags before after turn (Move.loads word next) within begun made =
       subst (λ (t : Turn). MakesMore log.Task m new (done_by t (Move.loads word next)))
       (sym made.answer)
       (logs_no_reading log.Task m new word (slice_index (task_words m) word)
-      (makes_load word (needs_flag (state m) word) made.view))
-  makes_more law before after (Went None) (Move.stores word value next) within begun made =
+      (makes_load flags word (needs_flag (state m) word) made.view))
+  makes_more law flags before after (Went None) (Move.stores word value next) within begun made =
       task_part law word value before.part true within begun made.view
-  makes_more law before after (Went (Some read)) (Move.stores word value next) within begun made =
-      absurd made
-  makes_more law before after Storing (Move.stores word value next) within begun made =
+  makes_more law flags before after (Went (Some read)) (Move.stores word value next) within begun
+      made = absurd made
+  makes_more law flags before after Storing (Move.stores word value next) within begun made =
       task_part law word value before.part false within begun made.view
-  makes_more law before after (Ended ending) (Move.stores word value next) within begun made =
-      absurd made
-  makes_more law before after turn (Move.ends ending) within begun made =
+  makes_more law flags before after (Ended ending) (Move.stores word value next) within begun
+      made = absurd made
+  makes_more law flags before after turn (Move.ends ending) within begun made =
       makes_none log.Task m new ready made.view

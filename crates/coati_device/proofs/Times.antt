@@ -16,22 +16,22 @@ pub sum_more : (periods : List ℕ) (boots : ℕ) → boots < length periods
 sum_more periods boots low = sum_by_more (λ x. x) periods boots 0 low
 
 -- there is a period under way where one is left
-pub boots_low : (periods : List ℕ) (clock boots until : ℕ) → IsTimed periods clock boots until → until ≡ 1
-    → boots < length periods
+pub boots_low : (periods : List ℕ) (clock boots until : ℕ) → IsTimed periods clock boots until →
+    until ≡ 1 → boots < length periods
 boots_low periods clock boots until t one = elim (cases_lt boots (length periods)) [
   | inl low ↦ low
   | inr high ↦ let few = t.few in absurd (omega (arith, t.behind (omega arith)))
 ]
 
 -- the next clock is the end of a period
-pub ends_now : (periods : List ℕ) (clock boots until : ℕ) → IsTimed periods clock boots until → until ≡ 1
-    → clock + 1 ≡ sum (take (boots + 1) periods)
+pub ends_now : (periods : List ℕ) (clock boots until : ℕ) → IsTimed periods clock boots until →
+    until ≡ 1 → clock + 1 ≡ sum (take (boots + 1) periods)
 ends_now periods clock boots until t one =
     let now = t.within (boots_low periods clock boots until t one) in omega (arith, now)
 
 -- a step within a period
-pub passes : (periods : List ℕ) (clock boots until : ℕ) → IsTimed periods clock boots until → until ≢ 1
-    → IsTimed periods (clock + 1) boots (until - 1)
+pub passes : (periods : List ℕ) (clock boots until : ℕ) → IsTimed periods clock boots until →
+    until ≢ 1 → IsTimed periods (clock + 1) boots (until - 1)
 passes periods clock boots until t other = record {
   few = t.few;
   past = omega (arith, t.past);
@@ -41,8 +41,9 @@ passes periods clock boots until t other = record {
 }
 
 -- a step to the end of a period
-pub is_cut : (periods : List ℕ) (clock boots until : ℕ) → ArePeriods periods → IsTimed periods clock boots until
-    → until ≡ 1 → IsTimed periods (clock + 1) (boots + 1) (slice_index periods (boots + 1))
+pub is_cut : (periods : List ℕ) (clock boots until : ℕ) → ArePeriods periods →
+    IsTimed periods clock boots until → until ≡ 1 →
+    IsTimed periods (clock + 1) (boots + 1) (slice_index periods (boots + 1))
 is_cut periods clock boots until some t one =
     let low = boots_low periods clock boots until t one in
     let now = ends_now periods clock boots until t one in
@@ -60,7 +61,8 @@ pub is_later : (periods : List ℕ) (clock boots until : ℕ) → IsTimed period
 is_later periods clock boots until t = omega (arith, t.past)
 
 -- before the first step
-pub is_timed_first : (periods : List ℕ) → ArePeriods periods → IsTimed periods 0 0 (slice_index periods 0)
+pub is_timed_first : (periods : List ℕ) → ArePeriods periods →
+    IsTimed periods 0 0 (slice_index periods 0)
 is_timed_first periods some = record {
   few = omega arith;
   past = omega arith;
@@ -78,17 +80,21 @@ take_ends_suc start zero (period ∷ more) low =
 take_ends_suc start (suc boots) (period ∷ more) low =
     let rest = take_ends_suc (start + period) boots more (omega arith) in
     let first = sum_by-cons (λ x. x) period (take (suc boots) more) in
-    let same : start + period + sum (take (suc boots) more) ≡ start + sum (take (suc (suc boots)) (period ∷ more)) =
+    let same : start + period + sum (take (suc boots) more)
+    ≡ start + sum (take (suc (suc boots)) (period ∷ more)) =
     omega (arith, first) in
     ap (λ (ends : List ℕ). (start + period) ∷ ends) rest
-    ∙ ap (λ (end : ℕ). (start + period) ∷ (take boots (ends_from (start + period) more) ++ end ∷ [])) same
+    ∙ ap (λ (end : ℕ).
+    (start + period) ∷ (take boots (ends_from (start + period) more) ++ end ∷ [])) same
 
 -- the first ends, and one more
 pub take_ends : (boots : ℕ) (periods : List ℕ) → boots < length periods
-    → take (boots + 1) (ends_from 0 periods) ≡ take boots (ends_from 0 periods) ++ sum (take (boots + 1) periods) ∷ []
+    → take (boots + 1) (ends_from 0 periods)
+    ≡ take boots (ends_from 0 periods) ++ sum (take (boots + 1) periods) ∷ []
 take_ends boots periods low =
     let end : 0 + sum (take (suc boots) periods) ≡ sum (take (suc boots) periods) = omega arith in
-    rw add-one (take_ends_suc 0 boots periods low ∙ ap (λ (x : ℕ). take boots (ends_from 0 periods) ++ x ∷ []) end)
+    rw add-one (take_ends_suc 0 boots periods low
+    ∙ ap (λ (x : ℕ). take boots (ends_from 0 periods) ++ x ∷ []) end)
 
 -- no period behind has ended
 none_ended : (start clock : ℕ) (periods : List ℕ) → clock < start
@@ -101,7 +107,8 @@ none_ended start clock (period ∷ more) early =
 ends_by_from : (start clock boots : ℕ) (periods : List ℕ) → boots ≤ length periods
     → start + sum (take boots periods) ≤ clock
     → (boots < length periods → clock < start + sum (take (suc boots) periods))
-    → filter (λ end. nat_le end clock) (ends_from start periods) ≡ take boots (ends_from start periods)
+    → filter (λ end. nat_le end clock) (ends_from start periods)
+    ≡ take boots (ends_from start periods)
 ends_by_from start clock zero [] few past next = refl
 ends_by_from start clock (suc boots) [] few past next = absurd (omega arith)
 ends_by_from start clock zero (period ∷ more) few past next =

@@ -138,8 +138,8 @@ LeadsOn program event argument left cpu words Storing =
 LeadsOn program event argument left cpu words (Ended ending) =
     HasGiven program event argument (message_of ending)
 
-module _ (joins : AccessesJoinUp) (goes_on : CoursesUnderWayGoOn Ending) (follows : FollowingGoesOn)
-    (decodes : DecodedIsEncoded)
+module _ (joins : AccessesJoinUp) (goes_on : CoursesUnderWayGoOn Ending)
+    (follows : FollowingGoesOn) (decodes : DecodedIsEncoded)
     (program : Program) (event : Event) (argument : ℕ) (before after : Cpu) (old new : List ℕ)
     (left : ℕ)
     (here : IsInTop program event argument before old left) where
@@ -163,8 +163,8 @@ module _ (joins : AccessesJoinUp) (goes_on : CoursesUnderWayGoOn Ending) (follow
   top_leads_on (Ended ending) step =
       let end = came (Ended ending) step in
       let ready =
-      ready_under_way scratch_view (can_step scratch_view follows) (program_code program) before old
-      left
+      ready_under_way scratch_view (can_step scratch_view follows) (program_code program) before
+      old left
       (top_course program event argument) blank_store here.done here.under_way in
       let instr = ready.can_step.0 in
       let starts = ready.can_step.1.starts in
@@ -184,10 +184,11 @@ above_each cost (first ∷ more) zero event there =
 above_each cost (first ∷ more) (suc number) event there =
     omega (arith, above_each cost more number event there)
 
--- with the parts of the posting, and the write that accepts it, it keeps to the bound of handlers
-pub top_in_bound : (program : Program) (number : ℕ) (event : Event)
+-- with the parts of the posting, its bottom half, and the write that accepts it, it keeps to the
+-- bound of handlers
+pub halves_in_bound : (program : Program) (number : ℕ) (event : Event)
     → slice_get program.events number ≡ Some event
-    → top_cost program event + 8 ≤ handler_bound program
-top_in_bound program number event there =
+    → event_cost program event + 9 ≤ handler_bound program
+halves_in_bound program number event there =
     let low =
     above_each (event_cost program) program.events number event there in omega (arith, low)

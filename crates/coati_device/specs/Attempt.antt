@@ -1,6 +1,6 @@
 -- The attempt under way: its task runs on the committed words, changed by the open transaction,
 -- and its log and its readings are what the body has written and read so far.
-use Rattle.std.specs.Prelude.{ℕ, ◌≡◌, ◌<◌, List, length, Some}
+use Rattle.std.specs.Prelude.{ℕ, ◌≡◌, ◌<◌, ◌&&◌, ◌⊎◌, Bool, List, length, not, is_some, Some}
 use Rattle.std.specs.Option.{unwrap_or}
 use Rattle.coati_word.specs.declared.ending.Ending.{Ending}
 use Rattle.coati_word.specs.declared.reading.Reading.{Reading}
@@ -11,13 +11,13 @@ use Rattle.task_syntax.specs.Course.{Access, Course, Store, accesses, answer, re
 use Rattle.task_syntax.specs.Events.{event_course}
 use Rattle.task_syntax.specs.Names.{tasks}
 use Rattle.task_syntax.specs.Units.{place_after, task_course}
-use Rattle.task_syntax.specs.Written.{last_written}
+use Rattle.task_syntax.specs.Written.{is_shared, last_written}
 use Rattle.nv_memory.specs.declared.log.Log.TheVariants as log
 use Rattle.nv_memory.specs.Logs.{log_value}
 use Rattle.nv_memory.specs.Seats.{Memory}
 use Rattle.nv_memory.specs.StandsFor.{committed_word}
 use Rattle.nv_memory.specs.State.{State, state}
-use Rattle.nv_memory.specs.Words.{current}
+use Rattle.nv_memory.specs.Words.{attempt_flag, current, doomed, mark, mode}
 use Rattle.serial_log.specs.declared.held.Held.{Held}
 use Rattle.serial_log.specs.Postings.{due_posting}
 use Rattle.word_code.specs.Code.{Bodies}
@@ -38,10 +38,17 @@ pub record IsAtTask (program : Program) (s : State) : Type 0 where
   pub clear : IsClear s
   pub task : current s < length (tasks program)
 
--- the body of the task to run has made accesses: its log holds what they wrote, and they read this
+-- the attempt reads a word before it or the open transaction wrote it
+abbrev pub is_read_below : State → List Access → ℕ → Bool
+is_read_below s done word = not (is_some (log_value s log.Tx word)) && is_shared done word
+
+-- the body of the task to run has made accesses: its log holds what they wrote, they read this,
+-- and in buffi the attempt's flags are of the words that they read from the variables
 pub record HasMade (s : State) (read : List Reading) (done : List Access) : Type 0 where
   pub log : (word : ℕ) → log_value s log.Task word ≡ last_written done word
   pub reads : read ≡ readings done
+  pub flags : mode s ≡ 1 → (word : ℕ) → word < s.n →
+      attempt_flag s word ≡ is_read_below s done word
 
 -- the machine is under way in the task to run, with so many steps left at most
 pub record IsRunning (program : Program) (code : Bodies) (m : Memory) (read : List Reading)
@@ -54,10 +61,17 @@ pub record IsRunning (program : Program) (code : Bodies) (m : Memory) (read : Li
   pub under_way : IsUnderWay task_view code cpu m left (task_course program (current (state m)))
       (base_word (state m)) done
 
--- the task to run has ended, and the program goes on at this place
+-- the task to run has ended: no commit of a task or unit and no undo is under way, but that of an
+-- event may be
+pub record IsBehindTask (program : Program) (s : State) : Type 0 where
+  pub mark : (mark s ≡ 0) ⊎ (mark s ≡ 3)
+  pub doomed : doomed s ≡ 0
+  pub task : current s < length (tasks program)
+
+-- and the program goes on at this place
 pub record HasEnded (program : Program) (m : Memory) (read : List Reading) (place : ℕ)
     : Type 0 where
-  pub at : IsAtTask program (state m)
+  pub at : IsBehindTask program (state m)
   pub made : HasMade (state m) read (accesses (task_course program (current (state m)))
       (base_word (state m)))
   pub leads : place ≡ place_after (answer (task_course program (current (state m)))

@@ -2,11 +2,11 @@
 use Rattle.std.specs.Prelude.{ℕ, ◌+◌, ◌-◌, List, [], ◌∷◌, ◌++◌, length, Option, Some, None}
 use Rattle.coati_word.specs.declared.reading.Reading.{Reading}
 use Rattle.serial_log.specs.declared.mark.Mark.{Mark}
-use Rattle.serial_log.specs.declared.mark.MarkKind.TheVariants.{Commit}
+use Rattle.serial_log.specs.declared.mark.MarkKind.TheVariants.{Abort, Commit}
 use Rattle.serial_log.specs.declared.record.Record.{Record}
 use Rattle.serial_log.specs.declared.unit.Unit.{Unit}
 use Rattle.serial_log.specs.declared.unit.Unit.TheVariants as unit
-use Rattle.serial_log.specs.History.{Past}
+use Rattle.serial_log.specs.History.{Past, with_mark}
 use Rattle.word_cpu.specs.declared.turn.Turn.{Turn}
 use Rattle.word_cpu.specs.declared.turn.Turn.TheVariants.{Went, Storing, Ended}
 
@@ -50,6 +50,14 @@ record_of_event event posting from count =
       reads_from = from;
       reads_len = count;
     }
+
+-- the history with the abort of a unit that had run so many tasks, for a posting's event that
+-- clashes with them on a word
+abbrev pub with_abort : Past → Unit → (tasks posting word : ℕ) → ℕ → Past
+with_abort past of_tasks tasks posting word at = with_mark past (record {
+  at = at;
+  kind = Abort (record { unit = of_tasks; tasks = tasks; posting = posting; word = word });
+})
 
 -- the history with the commit of an event's posting that read this
 abbrev pub with_event : Past → (event posting : ℕ) → List Reading → ℕ → Past

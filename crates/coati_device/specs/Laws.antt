@@ -1,9 +1,8 @@
--- The laws of a device: each row keeps each point, and so does the time behind it. They are of
--- mode split so far.
+-- The laws of a device: each row keeps each point, and so does the time behind it.
 use Rattle.std.specs.Prelude.{ℕ, suc, ◌+◌, ◌-◌, ◌^◌, ◌<◌, ◌≤◌, ◌≡◌, List, [], All, length, slice_index}
 use mathlib.Core.List.{IsPrefix}
 use Rattle.coati_word.specs.declared.mode.Mode.{Mode}
-use Rattle.coati_word.specs.declared.mode.Mode.TheVariants.{Split}
+use Rattle.coati_word.specs.declared.mode.Mode.TheVariants.{Buffi, Split}
 use Rattle.task_syntax.specs.declared.body.BodyId.{BodyId}
 use Rattle.task_syntax.specs.declared.body.BodyId.TheVariants.{Bottom, Task, Top}
 use Rattle.task_syntax.specs.declared.program.Program.{Program}
@@ -15,12 +14,13 @@ use Rattle.serial_log.specs.declared.record.Record.{Record}
 use Rattle.serial_log.specs.History.{HasRecord, readings_in}
 use Rattle.serial_log.specs.Legal.{IsLegalHistory}
 use Rattle.serial_log.specs.Postings.{Terms}
-use Rattle.serial_log.specs.Progresses.{ServesBetweenUnits}
+use Rattle.serial_log.specs.Progresses.{ServesAborts, ServesAtOnce, ServesBetweenUnits}
 use Rattle.serial_log.specs.Scripted.{AreBootsAtPeriods}
 use Rattle.serial_log.specs.Standing.{standing_of}
-use Rattle.nv_memory.specs.Blank.{blank}
+use Rattle.nv_memory.specs.Blank.{blank, mode_word}
 use Rattle.nv_memory.specs.Seats.{IsMemory, Memory}
 use Rattle.nv_memory.specs.State.{state}
+use Rattle.nv_memory.specs.Words.{mode}
 use Rattle.codegen.specs.Bodies.{program_code}
 use Rattle.word_code.specs.Code.{HasBody}
 use Rattle.word_cpu.specs.declared.cpu.Cpu.{Cpu}
@@ -31,7 +31,8 @@ use Rattle.serial_log.specs.declared.posted.Answer.{Answer}
 use Rattle.serial_log.specs.declared.script.Posting.{Posting}
 use Rattle.coati_device.specs.declared.device.Device.{Device}
 use Rattle.coati_device.specs.declared.device.Phase.TheVariants.{Choose, Run}
-use Rattle.coati_device.specs.Points.{AreBootsTold, HasRoomFor, IsFit, IsLegalBy, IsSound, IsSoundBy, IsTimed, ServesInTurn, reads_of}
+use Rattle.coati_device.specs.HeldEvents.{EventsFit}
+use Rattle.coati_device.specs.Points.{AreBootsTold, HasRoomFor, IsFit, IsLegalBy, IsSound, IsSoundBy, IsTimed, TakeTurns, reads_of}
 use Rattle.coati_device.specs.Rows.{IsRow, IsStepOf}
 use Rattle.coati_device.specs.BottomView.{bottom_view}
 use Rattle.coati_device.specs.Cursors.{AreCursors, cursor_of, next_posting}
@@ -53,13 +54,32 @@ Rows program old new = IsRow program (program_code program) old new
 abbrev pub AreCounted : Program → Device → Type 0
 AreCounted program d = (standing_of program d.history.marks).accepted ≡ d.accepted
 
+-- in buffi the held events of a device are what their logs and kept readings say
+abbrev pub HoldsItsEvents : Program → Device → Type 0
+HoldsItsEvents program d =
+    EventsFit program (state d.image) (standing_of program d.history.marks) d.waiting.events
+
 -- after each row memory and the attempt fit where the history leads; an event's commit tells its
 -- posting by the number of those that were accepted
 abbrev pub RowsKeepFit : Type 0
 RowsKeepFit =
     (program : Program) (old new : Device) → IsAccepted program → Fits program old →
-    AreCounted program old →
+    HoldsItsEvents program old → AreCounted program old →
     Rows program old new → Fits program new
+
+-- the held events stay what they are, the one that is committed aside
+abbrev pub RowsKeepEvents : Type 0
+RowsKeepEvents =
+    (program : Program) (old new : Device) → IsAccepted program → Fits program old →
+    HoldsItsEvents program old → AreCounted program old →
+    Rows program old new → HoldsItsEvents program new
+
+-- a row leaves the mode
+abbrev pub RowsKeepMode : Type 0
+RowsKeepMode =
+    (program : Program) (old new : Device) → IsAccepted program → Fits program old →
+    Rows program old new →
+    mode (state new.image) ≡ mode (state old.image)
 
 -- a row accepts no posting
 abbrev pub RowsAcceptNone : Type 0
@@ -71,18 +91,20 @@ RowsAcceptNone = (program : Program) (old new : Device) → Rows program old new
 abbrev pub RowsKeepLegal : Type 0
 RowsKeepLegal =
     (terms : Terms) (old new : Device) → IsAccepted terms.program → Fits terms.program old →
-    AreCounted terms.program old →
+    mode (state old.image) ≡ mode_word terms.mode →
+    HoldsItsEvents terms.program old → AreCounted terms.program old →
     IsLegalBy terms old.history old.clock → Rows terms.program old new →
     IsLegalBy terms new.history (old.clock + 1)
 
--- events are served between units
+-- tasks and events take turns
 abbrev pub ServesEvents : Program → Device → Type 0
-ServesEvents program d = ServesInTurn program (state d.image) d.phase d.history.marks
+ServesEvents program d = TakeTurns program (state d.image) d.phase d.history.marks
 
 -- and so they are after each row
 abbrev pub RowsKeepTurns : Type 0
 RowsKeepTurns =
-    (program : Program) (old new : Device) → Fits program old → ServesEvents program old →
+    (program : Program) (old new : Device) → IsAccepted program → Fits program old →
+    AreCounted program old → ServesEvents program old →
     Rows program old new →
     ServesEvents program new
 
@@ -166,6 +188,8 @@ pub record IsFresh (program : Program) (mode : Mode) (periods : List ℕ) (d : D
   pub readings : d.history.readings ≡ []
   pub attempt : d.attempt.items ≡ []
   pub unit : d.unit.items ≡ []
+  pub events : d.waiting.events ≡ []
+  pub made : d.waiting.made ≡ []
   pub finished : d.finished ≡ 0
   pub accepted : d.accepted ≡ 0
 
@@ -173,14 +197,16 @@ pub record IsFresh (program : Program) (mode : Mode) (periods : List ℕ) (d : D
 abbrev pub FreshDevicesAreSound : Type 0
 FreshDevicesAreSound =
     (terms : Terms) (periods : List ℕ) (d : Device) → ArePeriods periods → HasSizes terms.program →
-    terms.mode ≡ Split → IsFresh terms.program terms.mode periods d →
+    IsFresh terms.program terms.mode periods d →
     IsSound terms (program_code terms.program) periods d
 
 -- what a sound device stands for, in words of histories alone
 pub record IsToldWell (terms : Terms) (periods : List ℕ) (d : Device) : Type 0 where
   pub legal : IsLegalHistory terms d.history
   pub boots : AreBootsAtPeriods terms.program periods d.clock d.history.marks
-  pub turns : ServesBetweenUnits terms.program d.history.marks
+  pub split : terms.mode ≡ Split → ServesBetweenUnits terms.program d.history.marks
+  pub buffi : terms.mode ≡ Buffi → ServesAtOnce terms.program d.history.marks
+  pub aborts : ServesAborts d.history.marks
 
 abbrev pub SoundDevicesAreToldWell : Type 0
 SoundDevicesAreToldWell =

@@ -1,6 +1,8 @@
 pub mod Kept
+pub mod Waits
 pub mod TaskView
 pub mod BottomView
+pub mod HandlerView
 pub mod ScratchView
 pub mod Ticks
 pub mod Rows
@@ -8,6 +10,7 @@ pub mod Cursors
 pub mod Raises
 pub mod Attempt
 pub mod OpenUnit
+pub mod HeldEvents
 pub mod Endings
 pub mod Points
 pub mod Laws

@@ -7,16 +7,19 @@ use Rattle.task_syntax.specs.declared.program.Program.{Program}
 use Rattle.task_syntax.specs.Course.{readings}
 use Rattle.task_syntax.specs.Names.{tasks}
 use Rattle.task_syntax.specs.Units.{Reached, halt, is_inside, tasks_effect}
-use Rattle.task_syntax.specs.Written.{last_written}
+use Rattle.task_syntax.specs.Written.{is_shared, last_written}
 use Rattle.task_check.specs.Transitions.{midst_of_task}
 use Rattle.serial_log.specs.SerialRun.{Stand}
 use Rattle.nv_memory.specs.State.{State}
-use Rattle.nv_memory.specs.Words.{mark, opened}
-use Rattle.commit_log.specs.OpenUnit.{unit_log, unit_next}
+use Rattle.nv_memory.specs.Words.{doomed, mark, mode, opened}
+use Rattle.commit_log.specs.OpenUnit.{unit_flag, unit_log, unit_next}
 
--- a unit is open: a transaction is, or its first task is merged; a commit takes it
+-- a unit is open: a transaction is, or its first task is merged; a commit takes it, and so does an
+-- undo
 abbrev pub has_unit : State → Bool
-has_unit s = if mark s == 2 then false else (mark s == 1 || opened s == 1)
+has_unit s =
+    if mark s == 2 then false
+    else (if doomed s == 1 then false else (mark s == 1 || opened s == 1))
 
 -- so many tasks of the unit at the stand's place are finished, and the unit goes on inside its
 -- transaction
@@ -25,6 +28,8 @@ pub record HasFinished (program : Program) (s : State) (stand : Stand) (read : L
   pub reached : Reached
   pub tasks : tasks_effect program stand.place stand.store finished ≡ Some reached
   pub log : (word : ℕ) → unit_log s word ≡ last_written reached.done word
+  pub flags : mode s ≡ 1 → (word : ℕ) → word < s.n →
+      unit_flag s word ≡ is_shared reached.done word
   pub next : unit_next s ≡ reached.place
   pub inside : is_inside program stand.place reached.place ≡ true
   pub reads : read ≡ readings reached.done

@@ -1,6 +1,6 @@
 -- What a device keeps, point by point. Each point is said of parts of the device, so that a cut of
 -- power, which makes the phase `Choose`, leaves all that memory stands for.
-use Rattle.std.specs.Prelude.{ℕ, ◌+◌, ◌-◌, ◌^◌, ◌<◌, ◌≤◌, ◌≡◌, List, [], ◌∷◌, length, take, slice_get, sum, All, None, true, ◌⊎◌}
+use Rattle.std.specs.Prelude.{ℕ, ◌+◌, ◌-◌, ◌^◌, ◌<◌, ◌≤◌, ◌≡◌, List, [], ◌∷◌, length, take, slice_get, sum, All, None, Some, true, false, ◌⊎◌}
 use Rattle.std.specs.Option.{option_map_or}
 use Rattle.coati_word.specs.declared.reading.Reading.{Reading}
 use Rattle.task_syntax.specs.declared.program.Program.{Program}
@@ -14,22 +14,25 @@ use Rattle.serial_log.specs.History.{AreRecordsIn, Past}
 use Rattle.serial_log.specs.Legal.{AreMarksLegal}
 use Rattle.serial_log.specs.Marks.{boot_times}
 use Rattle.serial_log.specs.declared.mark.Mark.{Mark}
-use Rattle.serial_log.specs.Postings.{Terms}
-use Rattle.serial_log.specs.Progresses.{ServesBetweenUnits, settled_of}
+use Rattle.serial_log.specs.Postings.{IsDue, Terms}
+use Rattle.serial_log.specs.Progresses.{ServesAborts, ServesAtOnce, ServesBetweenUnits, awaited_of, settled_of}
 use Rattle.serial_log.specs.Scripted.{ends_from}
-use Rattle.serial_log.specs.Standing.{Standing, standing_of}
+use Rattle.serial_log.specs.Standing.{Standing, rest_of, standing_of}
+use Rattle.nv_memory.specs.Blank.{mode_word}
 use Rattle.nv_memory.specs.InRange.{ArePlacesInRange, InRange, IsClosed}
 use Rattle.nv_memory.specs.Ring.{Entry, held_entries}
 use Rattle.nv_memory.specs.Seats.{IsMemory, Memory}
 use Rattle.nv_memory.specs.StandsFor.{committed_word, place_of}
 use Rattle.nv_memory.specs.State.{State, state}
-use Rattle.nv_memory.specs.Words.{doomed, mode}
+use Rattle.nv_memory.specs.Words.{mode}
 use Rattle.word_code.specs.Code.{Bodies}
 use Rattle.coati_device.specs.declared.device.Device.{Device}
 use Rattle.coati_device.specs.declared.device.Phase.{Phase}
 use Rattle.coati_device.specs.declared.device.Phase.TheVariants.{Choose, Run, End, EndBottom}
 use Rattle.coati_device.specs.Attempt.{IsAttempt}
+use Rattle.coati_device.specs.HeldEvents.{EventsFit}
 use Rattle.coati_device.specs.OpenUnit.{IsUnitPlace, OpenUnitFits, has_unit}
+use Rattle.coati_device.specs.Waits.{waiting_count}
 
 -- memory is one of the program, in range, and a closed transaction leaves nothing behind
 pub record IsMemoryOf (program : Program) (m : Memory) : Type 0 where
@@ -39,7 +42,7 @@ pub record IsMemoryOf (program : Program) (m : Memory) : Type 0 where
   pub range : InRange (state m)
   pub places : ArePlacesInRange (length (tasks program)) (state m)
   pub closed : IsClosed (state m)
-  pub split : mode (state m) ≡ 0
+  pub mode : mode (state m) < 2
 
 -- what the top half of a posting's event gives
 abbrev pub message_to : Program → Held → List ℕ
@@ -85,12 +88,10 @@ pub record AreLastAccepted (standing : Standing) : Type 0 where
   pub few : length standing.rest ≤ standing.accepted
   pub numbered : AreNumberedFrom (standing.accepted + 1 - length standing.rest) standing.rest
 
--- memory, the open unit and the attempt fit where the history leads; in mode split no unit is
--- given up
+-- memory, the open unit and the attempt fit where the history leads
 pub record IsFit (program : Program) (code : Bodies) (m : Memory) (reads : Reads) (phase : Phase)
     (standing : Standing) : Type 0 where
   pub memory : IsMemoryOf program m
-  pub not_doomed : doomed (state m) ≡ 0
   pub stands : StandsFor program (state m) standing
   pub waiting : AreLastAccepted standing
   pub place : IsUnitPlace program standing.run.place
@@ -120,14 +121,19 @@ pub record AreBootsTold (periods : List ℕ) (boots : ℕ) (program : Program) (
   pub counted : (standing_of program past.marks).boots ≡ boots
   pub last : (standing_of program past.marks).last_boot ≡ sum (take boots periods)
 
+-- how many readings are in no record yet
+abbrev pub uncommitted : Device → ℕ
+uncommitted d = length d.unit.items + length d.attempt.items + waiting_count d.waiting
+
 -- there is room for what so many steps record, for the boots to come, and for the End mark
 pub record HasRoomFor (steps : ℕ) (periods : List ℕ) (d : Device) : Type 0 where
   pub marks : steps + (length periods - d.boots) + 1 ≤ d.history.mark_room
   pub attempt : steps ≤ d.attempt.room
   pub unit : length d.attempt.items + steps ≤ d.unit.room
-  pub records : length d.unit.items + length d.attempt.items + steps ≤ d.history.reading_room
-  pub few : length d.history.readings + length d.unit.items + length d.attempt.items
-      + steps < 2 ^ 32
+  pub waiting : steps ≤ d.waiting.room
+  pub places : steps ≤ d.waiting.places
+  pub records : uncommitted d + steps ≤ d.history.reading_room
+  pub few : length d.history.readings + uncommitted d + steps < 2 ^ 32
 
 abbrev pub IsBodyOfTask : BodyId → Type 0
 IsBodyOfTask (Task task) = Unit {0}
@@ -152,13 +158,33 @@ pub record ServesInTurn (program : Program) (s : State) (phase : Phase) (marks :
       All (λ held. (settled_of program marks).settled < held.number)
       (standing_of program marks).rest
 
+-- Behind an abort nothing of tasks is under way until its event is committed, which is the oldest.
+pub record Awaits (program : Program) (s : State) (phase : Phase) (marks : List Mark)
+    (posting : ℕ) : Type 0 where
+  pub mode : mode s ≡ 1
+  pub chooses : phase ≡ Choose
+  pub no_unit : has_unit s ≡ false
+  pub due : IsDue (rest_of program marks) posting
+
+-- events and tasks take turns, as the mode says
+pub record TakeTurns (program : Program) (s : State) (phase : Phase) (marks : List Mark)
+    : Type 0 where
+  pub split : mode s ≡ 0 → ServesInTurn program s phase marks
+  pub buffi : mode s ≡ 1 → ServesAtOnce program marks
+  pub aborts : ServesAborts marks
+  pub awaits : (posting : ℕ) → awaited_of marks ≡ Some posting →
+      Awaits program s phase marks posting
+
 -- what a device keeps, where no mark is later than this
 pub record IsSoundBy (terms : Terms) (code : Bodies) (periods : List ℕ) (at : ℕ) (d : Device)
     : Type 0 where
   pub fit : IsFit terms.program code d.image (reads_of d) d.phase
       (standing_of terms.program d.history.marks)
+  pub mode : mode (state d.image) ≡ mode_word terms.mode
+  pub events : EventsFit terms.program (state d.image)
+      (standing_of terms.program d.history.marks) d.waiting.events
   pub legal : IsLegalBy terms d.history at
-  pub turns : ServesInTurn terms.program (state d.image) d.phase d.history.marks
+  pub turns : TakeTurns terms.program (state d.image) d.phase d.history.marks
   pub accepted : (standing_of terms.program d.history.marks).accepted ≡ d.accepted
   pub timed : IsTimed periods d.clock d.boots d.until
   pub boots : AreBootsTold periods d.boots terms.program d.history

@@ -1,7 +1,8 @@
 -- What a raised posting comes to. Where the buffer is full it is refused at once. Else its handler
 -- runs, one machine step after another, each with its time, up to the write that accepts the
--- posting, or to the cut of power that loses it.
-use Rattle.std.specs.Prelude.{ℕ, ◌+◌, ◌-◌, ◌==◌, ◌≡◌, ◌≢◌, List, [], ◌∷◌, length, replicate, true, false, if◌then◌else◌}
+-- posting, or to the cut of power that loses it. In mode buffi the bottom half runs in the handler
+-- too.
+use Rattle.std.specs.Prelude.{ℕ, ◌+◌, ◌-◌, ◌==◌, ◌≡◌, ◌≢◌, Bool, List, [], ◌∷◌, length, replicate, true, false, if◌then◌else◌}
 use Rattle.task_syntax.specs.declared.program.Program.{Program}
 use Rattle.task_syntax.specs.declared.body.BodyId.TheVariants as body
 use Rattle.task_syntax.specs.Events.{message_of}
@@ -10,7 +11,8 @@ use Rattle.serial_log.specs.declared.posted.Answer.{Answer}
 use Rattle.serial_log.specs.declared.posted.Answer.TheVariants.{Accepted, Full, Lost}
 use Rattle.serial_log.specs.declared.script.Posting.{Posting}
 use Rattle.nv_memory.specs.Seats.{Memory}
-use Rattle.nv_memory.specs.State.{state}
+use Rattle.nv_memory.specs.State.{State, state}
+use Rattle.nv_memory.specs.Words.{mode}
 use Rattle.event_buffer.specs.Fill.{fill_change, is_full, tail_slot}
 use Rattle.event_buffer.specs.TurnLaws.{accept_change}
 use Rattle.word_code.specs.Code.{Bodies}
@@ -22,10 +24,13 @@ use Rattle.word_cpu.specs.UnderWay.{IsAtStart}
 use Rattle.coati_device.specs.declared.device.Device.{Device}
 use Rattle.coati_device.specs.declared.hand.Hand.{Hand}
 use Rattle.coati_device.specs.declared.hand.Hand.TheVariants.{Top, Fill, Accept, Over}
+use Rattle.coati_device.specs.declared.hand.Hand.TheVariants as hands
 use Rattle.coati_device.specs.Cursors.{answered, next_posting}
+use Rattle.coati_device.specs.HandlerView.{handler_view}
 use Rattle.coati_device.specs.ScratchView.{scratch_view}
 use Rattle.coati_device.specs.TaskView.{HasWritten}
 use Rattle.coati_device.specs.Ticks.{passed, ticked}
+use Rattle.coati_device.specs.Waits.{Waits, begun, waits_after, with_made}
 
 -- what a step of the top half makes of the handler: behind it the posting is written with the
 -- message that it gave
@@ -34,9 +39,19 @@ after_top cpu words (Went reading) = Top cpu words
 after_top cpu words Storing = Top cpu words
 after_top cpu words (Ended ending) = Fill (message_of ending) 0
 
--- a posting has its event, each word of its message, and an empty log for parts
-abbrev pub after_fill : List ℕ → ℕ → Hand
-after_fill message part = if part == length message + 1 then Accept else Fill message (part + 1)
+-- what a step of the bottom half makes of it
+abbrev pub after_bottom : Cpu → Turn → Hand
+after_bottom cpu (Went reading) = hands.Bottom cpu
+after_bottom cpu Storing = hands.Bottom cpu
+after_bottom cpu (Ended ending) = Accept
+
+-- a posting has its event, each word of its message, and an empty log for parts: this is the last
+abbrev pub is_last_part : List ℕ → ℕ → Bool
+is_last_part message part = part == length message + 1
+
+-- in buffi the event of an accepted posting waits for its commit with what it has read
+abbrev pub waits_held : State → Waits → Waits
+waits_held s waits = if mode s == 1 then with_made waits else waits
 
 -- one machine step of a handler of an event, before its time
 pub data IsHandStep (code : Bodies) (event : ℕ) (hand : Hand) (old : Device) (next : Hand)
@@ -46,12 +61,37 @@ pub data IsHandStep (code : Bodies) (event : ℕ) (hand : Hand) (old : Device) (
       next ≡ after_top after changed turn →
       IsHandStep code event hand old next new
   fills : (message : List ℕ) (part : ℕ) (image : Memory) → hand ≡ Fill message part →
+      is_last_part message part ≡ false →
       HasWritten old.image (fill_change (tail_slot (state old.image)) event message part) image →
-      new ≡ record old { image = image } → next ≡ after_fill message part →
+      new ≡ record old { image = image } → next ≡ Fill message (part + 1) →
+      IsHandStep code event hand old next new
+  -- in split the posting is accepted next
+  fills_last : (message : List ℕ) (part : ℕ) (image : Memory) → hand ≡ Fill message part →
+      is_last_part message part ≡ true → mode (state old.image) ≢ 1 →
+      HasWritten old.image (fill_change (tail_slot (state old.image)) event message part) image →
+      new ≡ record old { image = image } → next ≡ Accept →
+      IsHandStep code event hand old next new
+  -- in buffi its bottom half starts on the message
+  begins_bottom : (message : List ℕ) (part : ℕ) (image : Memory) (cpu : Cpu) →
+      hand ≡ Fill message part → is_last_part message part ≡ true →
+      mode (state old.image) ≡ 1 →
+      HasWritten old.image (fill_change (tail_slot (state old.image)) event message part) image →
+      IsAtStart (body.Bottom event) message cpu →
+      new ≡ record old { image = image; waiting = begun old.waiting } →
+      next ≡ hands.Bottom cpu →
+      IsHandStep code event hand old next new
+  bottoms : (before after : Cpu) (image : Memory) (turn : Turn) → hand ≡ hands.Bottom before →
+      IsStep handler_view code before after old.image image turn →
+      new ≡ record old { image = image; waiting = waits_after old.waiting turn } →
+      next ≡ after_bottom after turn →
       IsHandStep code event hand old next new
   accepts : (image : Memory) → hand ≡ Accept →
       HasWritten old.image (accept_change (state old.image)) image →
-      new ≡ record old { image = image; accepted = old.accepted + 1 } → next ≡ Over →
+      new ≡ record old {
+        image = image;
+        accepted = old.accepted + 1;
+        waiting = waits_held (state old.image) old.waiting;
+      } → next ≡ Over →
       IsHandStep code event hand old next new
 
 module _ (code : Bodies) (event : ℕ) (first : Hand) (start : Device) where

@@ -1,6 +1,6 @@
 -- What one step of the executor does, before its time: the first of these that applies. It writes
 -- at most one word of memory.
-use Rattle.std.specs.Prelude.{ℕ, ◌+◌, ◌-◌, ◌<◌, ◌≡◌, ◌≢◌, ◌⊎◌, List, [], ◌++◌, true, false, Some, length, slice_get, take}
+use Rattle.std.specs.Prelude.{ℕ, ◌+◌, ◌-◌, ◌<◌, ◌≡◌, ◌≢◌, ◌⊎◌, ◌==◌, Bool, List, [], ◌++◌, true, false, Option, None, Some, length, slice_get, take, if◌then◌else◌}
 use Rattle.std.specs.Option.{option_map_or}
 use Rattle.task_syntax.specs.declared.program.Program.{Program}
 use Rattle.task_syntax.specs.declared.program.Event.{Event}
@@ -14,7 +14,9 @@ use Rattle.nv_memory.specs.Seats.{Memory}
 use Rattle.nv_memory.specs.State.{Change, State, first_undone, set_to, state}
 use Rattle.nv_memory.specs.Words.{current, doomed, head, head_next, mark, mark_seat, mode, next, next_seat, opened}
 use Rattle.event_buffer.specs.TurnLaws.{prepare_change}
-use Rattle.buffi_sets.specs.Undo.{undo_changes}
+use Rattle.buffi_sets.specs.Conflict.{HasNoConflict, IsConflict}
+use Rattle.buffi_sets.specs.Flags.{HasNoFlag, unflag_attempt_changes}
+use Rattle.buffi_sets.specs.Undo.{doom_change, undo_changes}
 use Rattle.commit_log.specs.Changes.{commit_changes}
 use Rattle.word_code.specs.Code.{Bodies}
 use Rattle.word_cpu.specs.declared.cpu.Cpu.{Cpu}
@@ -28,9 +30,10 @@ use Rattle.coati_device.specs.declared.device.Phase.TheVariants.{Choose, Run, En
 use Rattle.serial_log.specs.declared.mark.MarkKind.TheVariants.{Done}
 use Rattle.serial_log.specs.History.{with_mark}
 use Rattle.coati_device.specs.BottomView.{bottom_view, head_log}
-use Rattle.coati_device.specs.Kept.{adding, after_turn, emptied, unit_of, with_commit, with_event}
-use Rattle.coati_device.specs.TaskView.{HasWritten, task_view}
+use Rattle.coati_device.specs.Kept.{adding, after_turn, emptied, unit_of, with_abort, with_commit, with_event}
+use Rattle.coati_device.specs.TaskView.{HasWritten, IsAfter, task_view}
 use Rattle.coati_device.specs.Ticks.{ticked}
+use Rattle.coati_device.specs.Waits.{first_read, without_first}
 
 -- neither a commit nor an undo is under way
 pub record IsClear (s : State) : Type 0 where
@@ -86,6 +89,43 @@ pub record EndsBottom (d : Device) : Type 0 where
   pub clear : IsClear (state d.image)
   pub events : ComesToEvents (state d.image)
 
+-- in buffi an event may be committed: no attempt is under way, or it has ended
+abbrev pub IsBetween : Phase → Type 0
+IsBetween Choose = Unit {0}
+IsBetween (Run cpu) = ⊥
+IsBetween (End place) = Unit {0}
+IsBetween EndBottom = ⊥
+
+-- an attempt has ended, so what it read counts
+abbrev pub has_attempt : Phase → Bool
+has_attempt (End place) = true
+has_attempt other = false
+
+-- the oldest held posting comes next, in mode buffi, where its bottom half has run already
+pub record Drains (d : Device) : Type 0 where
+  pub phase : IsBetween d.phase
+  pub clear : IsClear (state d.image)
+  pub mode : mode (state d.image) ≡ 1
+  pub held : 0 < held_count (state d.image)
+
+-- it clashes with no word that the open transaction or the attempt has read
+pub record DrainsFreely (d : Device) : Type 0 where
+  pub drains : Drains d
+  pub free : HasNoConflict (state d.image) (has_attempt d.phase)
+
+-- the number of the oldest held posting: it is as far behind the last accepted one as postings
+-- are held
+abbrev pub oldest_posting : Device → ℕ
+oldest_posting d = d.accepted + 1 - held_count (state d.image)
+
+-- an open transaction is to be undone; a lone attempt has written nothing that stays
+abbrev pub abort_change : State → Option Change
+abort_change s = if opened s == 1 then Some doom_change else None
+
+-- the finished tasks of a unit that is given up
+abbrev pub tasks_given_up : Device → ℕ
+tasks_given_up d = if has_attempt d.phase then d.finished + 1 else d.finished
+
 -- what a step of the machine in a bottom half makes of the phase
 abbrev pub phase_of_bottom : Cpu → Turn → Phase
 phase_of_bottom cpu (Went reading) = Run cpu
@@ -116,9 +156,17 @@ pub data IsRow (program : Program) (code : Bodies) (old new : Device) : Type 0 w
       0 < log_length (state old.image) log.Task →
       HasWritten old.image (set_to (seats_of log.Task).length 0) image →
       new ≡ record old { image = image } → IsRow program code old new
+  -- in buffi a flag that an attempt before has left is taken back
+  unflags : (change : Change) (image : Memory) → Chooses old →
+      current (state old.image) ≢ halt → log_length (state old.image) log.Task ≡ 0 →
+      mode (state old.image) ≡ 1 →
+      first_undone (state old.image) (unflag_attempt_changes (state old.image)) ≡ Some change →
+      HasWritten old.image change image →
+      new ≡ record old { image = image } → IsRow program code old new
   -- the task to run starts
   starts : (cpu : Cpu) → Chooses old → current (state old.image) ≢ halt →
       log_length (state old.image) log.Task ≡ 0 →
+      (mode (state old.image) ≡ 1 → HasNoFlag (state old.image)) →
       IsAtStart (Task (current (state old.image))) [] cpu →
       new ≡ record old { phase = Run cpu; attempt = emptied old.attempt } →
       IsRow program code old new
@@ -194,17 +242,46 @@ pub data IsRow (program : Program) (code : Bodies) (old new : Device) : Type 0 w
       HasWritten old.image (prepare_change (state old.image)) image →
       new ≡ record old { image = image } →
       IsRow program code old new
-  -- the event is committed; its posting is as far behind the last accepted one as postings are
-  -- held
+  -- the event is committed
   commits_event : (image : Memory) → EndsBottom old →
       head_next (state old.image) ≡ position_after old.image.k (head (state old.image)) →
       HasWritten old.image (set_to mark_seat 3) image →
       new ≡ record old {
         image = image;
         history = with_event old.history (head_entry (state old.image)).event
-            (old.accepted + 1 - held_count (state old.image)) old.attempt.items (old.clock + 1);
+            (oldest_posting old) old.attempt.items (old.clock + 1);
         attempt = emptied old.attempt;
         phase = Choose;
+      } → IsRow program code old new
+  -- in buffi the oldest held event writes what the unit has read: the unit is given up
+  aborts : (word : ℕ) (image : Memory) → Drains old →
+      IsConflict (state old.image) (has_attempt old.phase) word →
+      IsAfter old.image (abort_change (state old.image)) image →
+      new ≡ record old {
+        image = image;
+        history = with_abort old.history (unit_of
+            (transaction_of program (current (state old.image))) (current (state old.image)))
+            (tasks_given_up old) (oldest_posting old) word (old.clock + 1);
+        unit = emptied old.unit;
+        finished = 0;
+        attempt = emptied old.attempt;
+        phase = Choose;
+      } → IsRow program code old new
+  -- the position behind the head is written
+  prepares_drain : (image : Memory) → DrainsFreely old →
+      head_next (state old.image) ≢ position_after old.image.k (head (state old.image)) →
+      HasWritten old.image (prepare_change (state old.image)) image →
+      new ≡ record old { image = image } →
+      IsRow program code old new
+  -- the event is committed, with what it read in its handler
+  drains : (image : Memory) → DrainsFreely old →
+      head_next (state old.image) ≡ position_after old.image.k (head (state old.image)) →
+      HasWritten old.image (set_to mark_seat 3) image →
+      new ≡ record old {
+        image = image;
+        history = with_event old.history (head_entry (state old.image)).event
+            (oldest_posting old) (first_read old.waiting.events) (old.clock + 1);
+        waiting = without_first old.waiting;
       } → IsRow program code old new
 
 -- a step of the executor: a row, and its time

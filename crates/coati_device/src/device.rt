@@ -1,5 +1,6 @@
 use crate::cursor::Cursor;
 use crate::readings::Readings;
+use crate::waiting::Waiting;
 use nv_memory::Image;
 use serial_log::History;
 use word_cpu::Cpu;
@@ -39,6 +40,8 @@ pub struct Device {
     pub attempt: Readings,
     /// What the finished tasks of the open transaction have read.
     pub unit: Readings,
+    /// What the events of the held postings have read, in mode `buffi`.
+    pub waiting: Waiting,
     /// How many tasks of the open transaction are finished.
     pub finished: u32,
     /// The machine steps that there is room for.

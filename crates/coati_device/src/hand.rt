@@ -9,6 +9,8 @@ pub enum Hand {
     Top(Cpu, Scratch),
     /// At a part of the posting with this message, counted from 0.
     Fill(Message, u16),
+    /// In the bottom half, in mode `buffi`.
+    Bottom(Cpu),
     /// At the write that accepts the posting.
     Accept,
     /// Behind it.

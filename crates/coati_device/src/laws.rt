@@ -1,8 +1,11 @@
 //! What follows from the definitions: each function's contract is a law, and its body does
 //! nothing.
 
-ghost use Rattle.coati_device.specs.Laws.{FreshDevicesAreSound, RowsAcceptNone, RowsKeepFit, RowsKeepLegal, RowsKeepTurns, RowsLeaveTime, RowsTakeOneRoom, RowsTellNoBoot, RunningMachinesCanRun, SoundDevicesAreToldWell, StepsKeepSound, TicksKeepRoom, TicksKeepSound};
+ghost use Rattle.coati_device.specs.Laws.{FreshDevicesAreSound, RowsAcceptNone, RowsKeepEvents, RowsKeepFit, RowsKeepLegal, RowsKeepMode, RowsKeepTurns, RowsLeaveTime, RowsTakeOneRoom, RowsTellNoBoot, RunningMachinesCanRun, SoundDevicesAreToldWell, StepsKeepSound, TicksKeepRoom, TicksKeepSound};
 
+use buffi_sets::laws::{
+    doom_writes_keep, flag_writes_set_one_flag, undo_writes_keep, unflag_writes_take_one_back,
+};
 use codegen::laws::{accepted_programs_compute_their_courses, bodies_stand_by_number};
 use event_buffer::laws::commits_take_the_oldest;
 use nv_memory::laws::blank_images_are_sound;
@@ -11,13 +14,17 @@ use serial_log::laws::{
     turns_go_on,
 };
 use task_buffer::laws::stores_set_the_value;
-use task_syntax::laws::{accesses_join_up, courses_under_way_go_on, last_writes_tell_the_store};
+use task_syntax::laws::{
+    accesses_join_up, courses_under_way_go_on, last_writes_tell_the_store, shared_reads_decide,
+    written_words_are_told,
+};
 use word_code::laws::following_goes_on;
 
-/// After each row memory and the attempt fit where the history leads, and a machine that runs can
-/// make its next step.
+/// After each row memory and the attempt fit where the history leads, in the same mode, and a
+/// machine that runs can make its next step.
 pub fn rows_keep_fit()
     ensures fit { RowsKeepFit }
+    ensures mode { RowsKeepMode }
     ensures runs { RunningMachinesCanRun }
 {
     accesses_join_up();
@@ -28,10 +35,24 @@ pub fn rows_keep_fit()
     accepted_programs_compute_their_courses();
     stores_set_the_value();
     commits_take_the_oldest();
+    written_words_are_told();
+    shared_reads_decide();
+    flag_writes_set_one_flag();
+    unflag_writes_take_one_back();
+    doom_writes_keep();
+    undo_writes_keep();
 }
 
-/// The marks of each row are legal, and events are served between units. A row tells no boot,
-/// accepts no posting, and takes the room of one step.
+/// After each row the held events are what their logs and kept readings say.
+pub fn rows_keep_events()
+    ensures { RowsKeepEvents }
+{
+    following_goes_on();
+    commits_take_the_oldest();
+}
+
+/// The marks of each row are legal, and tasks and events take turns. A row tells no boot, accepts
+/// no posting, and takes the room of one step.
 pub fn rows_keep_histories()
     ensures legal { RowsKeepLegal }
     ensures turns { RowsKeepTurns }
@@ -47,6 +68,7 @@ pub fn rows_keep_histories()
     accesses_join_up();
     last_writes_tell_the_store();
     following_goes_on();
+    written_words_are_told();
 }
 
 /// The time behind a row keeps what a device keeps.
@@ -64,6 +86,7 @@ pub fn steps_keep_devices()
     ensures { StepsKeepSound }
 {
     rows_keep_fit();
+    rows_keep_events();
     rows_keep_histories();
     ticks_keep_devices();
 }

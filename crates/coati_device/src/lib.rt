@@ -9,9 +9,11 @@ pub mod laws;
 pub mod raise_laws;
 mod readings;
 mod scratch;
+mod waiting;
 
 pub use cursor::Cursor;
 pub use device::{Device, Phase};
 pub use hand::Hand;
 pub use readings::Readings;
 pub use scratch::Scratch;
+pub use waiting::Waiting;

@@ -28,8 +28,8 @@ use Rattle.serial_log.specs.Legal.{IsDoneWith, IsEndLegal, IsLegalMark}
 use Rattle.serial_log.specs.declared.held.Held.{Held}
 use Rattle.serial_log.specs.declared.posted.Posted.{Posted as Raised}
 use Rattle.serial_log.specs.Marks.{boot_times, boot_times_by, raised_by, raised_postings}
-use Rattle.serial_log.specs.Postings.{Terms}
-use Rattle.serial_log.specs.Progresses.{ServesSettled, Settled, none_settled, settled_after, settled_of}
+use Rattle.serial_log.specs.Postings.{IsDue, Terms}
+use Rattle.serial_log.specs.Progresses.{IsServedFirst, ServesAll, ServesSettled, Settled, awaited_by, awaited_of, none_settled, settled_after, settled_of}
 use Rattle.serial_log.specs.Standing.{Standing, after_mark, opening, standing_of}
 use Rattle.serial_log.proofs.Records.{records_push}
 use Rattle.serial_log.proofs.Walks.{each_push, walk_push}
@@ -37,7 +37,8 @@ use Rattle.codegen.specs.Bodies.{program_code}
 use Rattle.coati_device.specs.declared.device.Device.{Device}
 use Rattle.coati_device.specs.declared.device.Phase.{Phase}
 use Rattle.coati_device.specs.Laws.{Fits}
-use Rattle.coati_device.specs.Points.{AreBootsTold, AreHeld, IsFit, IsLegalBy, ServesInTurn, reads_of}
+use Rattle.coati_device.specs.HeldEvents.{EventsFit}
+use Rattle.coati_device.specs.Points.{AreBootsTold, AreHeld, Awaits, IsFit, IsLegalBy, ServesInTurn, TakeTurns, reads_of}
 use Rattle.coati_device.proofs.CursorMoves.{cursors_stay}
 use Rattle.coati_board.specs.Board.{IsBoard, end_of, end_of_kind, terms_of}
 
@@ -107,7 +108,7 @@ done_where_idle program d sizes fit idle = record {
     at_current : (b : Bool) → (opened (state d.image) == 1) ≡ b → place_of (state d.image) ≡ halt
     at_current false closed = rw (idle.mark, closed) idle.current
     at_current true open_ =
-        let unit : has_unit (state d.image) ≡ true = rw (idle.mark, open_) refl in
+        let unit : has_unit (state d.image) ≡ true = rw (idle.mark, idle.doomed, open_) refl in
         let run = (standing_of program d.history.marks).run in
         let fits : HasFinished program (state d.image) run d.unit.items d.finished =
         subst (λ (has : Bool). UnitFits program (state d.image) run d.unit.items d.finished has)
@@ -175,9 +176,9 @@ module _ (terms : Terms) (past : Past) (clock : ℕ) (e : End) where
   }
 
   -- the mark ends no task
-  pub turns_behind_end : (s : State) (phase : Phase) → ServesInTurn terms.program s phase past.marks →
+  in_turn_behind_end : (s : State) (phase : Phase) → ServesInTurn terms.program s phase past.marks →
       ServesInTurn terms.program s phase (with_mark past (record { at = clock; kind = kind.End e })).marks
-  turns_behind_end s phase h =
+  in_turn_behind_end s phase h =
       let mark : Mark = record { at = clock; kind = kind.End e } in
       let more = past.marks ++ mark ∷ [] in
       let settled_is =
@@ -204,6 +205,41 @@ module _ (terms : Terms) (past : Past) (clock : ℕ) (e : End) where
             (h.later busy));
       }
 
+-- in either mode
+module _ (terms : Terms) (past : Past) (clock : ℕ) (e : End) (s : State) (phase : Phase)
+    (turns : TakeTurns terms.program s phase past.marks) where
+  abbrev mark_is : Mark
+  mark_is = record { at = clock; kind = kind.End e }
+
+  awaited_stays : awaited_of (past.marks ++ mark_is ∷ []) ≡ awaited_of past.marks
+  awaited_stays = walk_push (λ awaited mark. awaited_by awaited mark.kind) None past.marks mark_is
+
+  serves_first : (awaited : Option ℕ) → IsServedFirst awaited (kind.End e)
+  serves_first None = tt
+  serves_first (Some posting) = tt
+
+  awaits_still : (posting : ℕ) → Awaits terms.program s phase past.marks posting →
+      Awaits terms.program s phase (past.marks ++ mark_is ∷ []) posting
+  awaits_still posting awaits = record {
+    mode = awaits.mode;
+    chooses = awaits.chooses;
+    no_unit = awaits.no_unit;
+    due = subst (λ (x : Standing). IsDue x.rest posting)
+        (sym (standing_stays terms past clock e)) awaits.due;
+  }
+
+  pub turns_behind_end : TakeTurns terms.program s phase (past.marks ++ mark_is ∷ [])
+  turns_behind_end = record {
+    split = λ split. in_turn_behind_end terms past clock e s phase (turns.split split);
+    buffi = λ buffi. each_push (after_mark terms.program) ServesAll (opening terms.program)
+        past.marks mark_is (turns.buffi buffi) (λ ends. absurd ends);
+    aborts = each_push (λ awaited mark. awaited_by awaited mark.kind)
+        (λ awaited mark. IsServedFirst awaited mark.kind) None past.marks mark_is turns.aborts
+        (serves_first _);
+    awaits = λ posting awaited. awaits_still posting
+        (turns.awaits posting (sym awaited_stays ∙ awaited));
+  }
+
 -- no posting is raised with it
 raised_stays : (marks : List Mark) (at : ℕ) (e : End) →
     raised_postings (marks ++ record { at = at; kind = kind.End e } ∷ []) ≡ raised_postings marks
@@ -221,7 +257,6 @@ fit_behind_end program d e fit =
     (record { at = d.clock; kind = kind.End e })))
     (record {
       memory = fit.memory;
-      not_doomed = fit.not_doomed;
       stands =
           record { words = fit.stands.words; place = fit.stands.place; held = fit.stands.held };
       waiting = record { few = fit.waiting.few; numbered = fit.waiting.numbered };
@@ -239,10 +274,13 @@ pub closed_board : (program : Program) (mode : Mode) (script : Script) (d : Devi
 closed_board program mode script d e board none end = record {
   accepted = board.accepted;
   sizes = board.sizes;
-  served = board.served;
   scripted = board.scripted;
   sound = record {
     fit = fit_behind_end program d e board.sound.fit;
+    mode = board.sound.mode;
+    events =
+        subst (λ (s : Standing). EventsFit program (state d.image) s d.waiting.events)
+        (sym (standing_stays (terms_of program mode) d.history d.clock e)) board.sound.events;
     legal = legal_behind_end (terms_of program mode) d.history d.clock e board.sound.legal end;
     turns =
         turns_behind_end (terms_of program mode) d.history d.clock e (state d.image) d.phase

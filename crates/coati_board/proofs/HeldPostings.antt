@@ -31,6 +31,7 @@ use Rattle.coati_device.specs.Attempt.{HasEndedBottom, IsAttempt}
 use Rattle.coati_device.specs.Laws.{Fits}
 use Rattle.coati_device.specs.Points.{AreHeld}
 use Rattle.coati_device.specs.Rows.{ComesToEvents, ComesToTasks, head_entry}
+use Rattle.coati_board.specs.Ready.{ComesToDrain}
 use Rattle.coati_device.proofs.HeadEntry.{event_there, oldest_at_head}
 
 -- as many entries as postings
@@ -87,13 +88,30 @@ none_first : (s : State) (k from count : ℕ) → first_job s (slots_from k from
 none_first s k from zero e = refl
 none_first s k from (suc count) e = absurd cc
 
-none_by : (s : State) (is_open : Bool) → (opened s == 1) ≡ is_open → (if is_open then None else first_job s (held_slots s)) ≡ None →
-    mode s ≡ 0 → ComesToTasks s
-none_by s true is e split = inr (split, grind (arith, nat_tests))
+none_by : (s : State) (is_open : Bool) → (opened s == 1) ≡ is_open →
+    (if is_open then None else first_job s (held_slots s)) ≡ None →
+    (0 < held_count s → mode s ≡ 0) → ComesToTasks s
+none_by s true is e split = none_open (held_count s) refl
+  where
+    none_open : (count : ℕ) → held_count s ≡ count → ComesToTasks s
+    none_open zero none = inl none
+    none_open (suc more) some =
+        inr (split (omega (arith, some)), grind (arith, nat_tests))
 none_by s false is e split = inl (none_first s s.k (oldest s) (held_count s) e)
 
-pub none_picked : (s : State) → next_job s ≡ None → mode s ≡ 0 → ComesToTasks s
+pub none_picked : (s : State) → next_job s ≡ None → (0 < held_count s → mode s ≡ 0) →
+    ComesToTasks s
 none_picked s e split = none_by s (opened s == 1) refl e split
+
+-- where no event is to be drained, one that is held is served in mode split
+pub split_where_held : (s : State) → mode s < 2 → ¬ ComesToDrain s → 0 < held_count s →
+    mode s ≡ 0
+split_where_held s low undrained some = by (mode s) refl
+  where
+    by : (is : ℕ) → mode s ≡ is → mode s ≡ 0
+    by zero is = is
+    by (suc zero) is = absurd (undrained (record { mode = is; held = some }))
+    by (suc (suc more)) is = absurd (omega (arith, low, is))
 
 -- the event at the head is one of the program's
 pub known_at_head : (program : Program) (d : Device) → Fits program d → mark (state d.image) ≡ 0 → 0 < held_count (state d.image) →

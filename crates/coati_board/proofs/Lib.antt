@@ -15,3 +15,6 @@ pub mod Handling
 pub mod Raising
 pub mod Raised
 pub mod FirstLeft
+pub mod HandlerViewing
+pub mod HandlerRunning
+pub mod Draining

@@ -27,7 +27,7 @@ use Rattle.coati_device.specs.Cursors.{HasRaised, answered, cursor_of, next_post
 use Rattle.coati_device.specs.Laws.{AreRecordsGrown, RaisesKeepSound}
 use Rattle.coati_device.specs.Raises.{Handles, IsHandStep, Raises, Ran}
 use Rattle.coati_device.specs.Raises.Handles.{loses, takes}
-use Rattle.coati_device.specs.Raises.IsHandStep.{accepts, fills, tops}
+use Rattle.coati_device.specs.Raises.IsHandStep.{accepts, begins_bottom, bottoms, fills, fills_last, tops}
 use Rattle.coati_device.specs.Raises.Raises.{fulls, handles}
 use Rattle.coati_device.specs.Raises.Ran.{begins, goes_on}
 use Rattle.coati_device.specs.Ticks.{cut, passed, ticked}
@@ -92,6 +92,11 @@ module _ (program : Program) (mode : Mode) (script : Script) (old : Device) (boa
         some = omega (arith, spare, most);
         time = time;
         count = omega (arith, counted, time, spare, most);
+        events = board.sound.events;
+        waiting = record {
+          readings = (board.room open_).waiting;
+          places = let places = (board.room open_).places in omega (arith, places, spare, most);
+        };
         timed = board.sound.timed;
         few_periods = board.scripted.few_periods;
       }
@@ -110,9 +115,38 @@ pub record GoesOn (start d : Device) : Type 0 where
 module _ (code : Bodies) (event : ℕ) (start : Device) where
   step_goes : (hand next : Hand) (d mid : Device) → GoesOn start d → IsHandStep code event hand d next mid → Goes start mid
   step_goes hand next d mid here (tops before after words changed turn is step same to) = rw same here.goes
-  step_goes hand next d mid here (fills words part image is wrote same to) =
+  step_goes hand next d mid here (fills words part image is more wrote same to) =
       let goes = here.goes in
-      rw same (record { clock = goes.clock; accepted = goes.accepted; finished = goes.finished; history = goes.history })
+      rw same (record {
+        clock = goes.clock;
+        accepted = goes.accepted;
+        finished = goes.finished;
+        history = goes.history;
+      })
+  step_goes hand next d mid here (fills_last words part image is last other wrote same to) =
+      let goes = here.goes in
+      rw same (record {
+        clock = goes.clock;
+        accepted = goes.accepted;
+        finished = goes.finished;
+        history = goes.history;
+      })
+  step_goes hand next d mid here (begins_bottom words part image cpu is last buffi wrote start same to) =
+      let goes = here.goes in
+      rw same (record {
+        clock = goes.clock;
+        accepted = goes.accepted;
+        finished = goes.finished;
+        history = goes.history;
+      })
+  step_goes hand next d mid here (bottoms before after image turn is step same to) =
+      let goes = here.goes in
+      rw same (record {
+        clock = goes.clock;
+        accepted = goes.accepted;
+        finished = goes.finished;
+        history = goes.history;
+      })
   step_goes hand next d mid here (accepts image is wrote same to) =
       let goes = here.goes in
       let count = here.same in
@@ -120,7 +154,14 @@ module _ (code : Bodies) (event : ℕ) (start : Device) where
 
   step_counts_none : (hand next : Hand) (d mid : Device) → IsHandStep code event hand d next mid → next ≢ Over → mid.accepted ≡ d.accepted
   step_counts_none hand next d mid (tops before after words changed turn is step same to) other = rw same refl
-  step_counts_none hand next d mid (fills words part image is wrote same to) other = rw same refl
+  step_counts_none hand next d mid (fills words part image is more wrote same to) other =
+      rw same refl
+  step_counts_none hand next d mid (fills_last words part image is last split wrote same to)
+      other = rw same refl
+  step_counts_none hand next d mid
+      (begins_bottom words part image cpu is last buffi wrote start same to) other = rw same refl
+  step_counts_none hand next d mid (bottoms before after image turn is step same to) other =
+      rw same refl
   step_counts_none hand next d mid (accepts image is wrote same to) other = absurd (other to)
 
   ran_goes : (first : Hand) {hand : Hand} {d : Device} → Ran code event first start hand d → GoesOn start d
@@ -239,7 +280,6 @@ raise_keeps program mode script number old new answer board low left spare open_
       board = record {
         accepted = board.accepted;
         sizes = board.sizes;
-        served = board.served;
         scripted = board.scripted;
         sound = has.sound;
         cursors = has.cursors;

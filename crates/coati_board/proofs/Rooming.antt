@@ -12,21 +12,30 @@ use Rattle.serial_log.specs.Postings.{Terms}
 use Rattle.coati_device.specs.declared.device.Device.{Device}
 use Rattle.coati_device.specs.Kept.{Kept}
 use Rattle.coati_device.specs.Cursors.{AreCursors}
-use Rattle.coati_device.specs.Points.{ServesInTurn, HasRoomFor, IsFit, IsSound, Reads}
+use Rattle.coati_device.specs.HeldEvents.{EventsFit}
+use Rattle.coati_device.specs.Points.{HasRoomFor, IsFit, IsSound, Reads, TakeTurns, uncommitted}
+use Rattle.coati_device.specs.Waits.{Waits, waiting_count}
 use Rattle.serial_log.specs.Standing.{standing_of}
 use Rattle.coati_board.specs.Board.{IsBoard, IsRoomier, terms_of}
 
 module _ (terms : Terms) (periods : List ℕ) (d : Device) (past : Past) (attempt unit : Kept)
-    (spare : ℕ)
+    (waiting : Waits) (spare : ℕ)
     (marks : past.marks ≡ d.history.marks) (readings : past.readings ≡ d.history.readings)
     (items : attempt.items ≡ d.attempt.items)
-    (kept : unit.items ≡ d.unit.items) where
+    (kept : unit.items ≡ d.unit.items)
+    (events : waiting.events ≡ d.waiting.events) where
   abbrev with_items : List Reading → List Reading → Reads
   with_items one other = record { attempt = one; unit = other; finished = d.finished }
 
   sound_with_room : IsSound terms (program_code terms.program) periods d →
       IsSound terms (program_code terms.program) periods
-      (record d { history = past; attempt = attempt; unit = unit; spare = spare })
+      (record d {
+        history = past;
+        attempt = attempt;
+        unit = unit;
+        waiting = waiting;
+        spare = spare;
+      })
   sound_with_room sound = record {
     fit =
         let code = program_code terms.program in
@@ -38,6 +47,12 @@ module _ (terms : Terms) (periods : List ℕ) (d : Device) (past : Past) (attemp
         (subst (λ (rs : List Reading). IsFit terms.program code d.image
         (with_items d.attempt.items rs) d.phase (standing_of terms.program d.history.marks))
         (sym kept) sound.fit));
+    mode = sound.mode;
+    events =
+        subst (λ (ms : List Mark). EventsFit terms.program (state d.image)
+        (standing_of terms.program ms) waiting.events) (sym marks)
+        (subst (λ (reads : List (List Reading)). EventsFit terms.program (state d.image)
+        (standing_of terms.program d.history.marks) reads) (sym events) sound.events);
     legal = record {
       records = rw (marks, readings) sound.legal.records;
       legal = rw (marks, readings) sound.legal.legal;
@@ -45,7 +60,7 @@ module _ (terms : Terms) (periods : List ℕ) (d : Device) (past : Past) (attemp
       latest = rw marks sound.legal.latest;
     };
     turns =
-        subst (λ (ms : List Mark). ServesInTurn terms.program (state d.image) d.phase ms) (sym marks)
+        subst (λ (ms : List Mark). TakeTurns terms.program (state d.image) d.phase ms) (sym marks)
         sound.turns;
     accepted = rw marks sound.accepted;
     timed = sound.timed;
@@ -57,25 +72,38 @@ module _ (terms : Terms) (periods : List ℕ) (d : Device) (past : Past) (attemp
   }
 
 roomier_parts : (program : Program) (mode : Mode) (script : Script) (d : Device) (past : Past)
-    (attempt unit : Kept) (spare : ℕ) →
+    (attempt unit : Kept) (waiting : Waits) (spare : ℕ) →
     past.marks ≡ d.history.marks → past.readings ≡ d.history.readings →
     attempt.items ≡ d.attempt.items → unit.items ≡ d.unit.items →
+    waiting.events ≡ d.waiting.events →
     IsBoard program mode script d → d.clock + spare < 2 ^ 32 →
-    length past.readings + length unit.items + length attempt.items + spare < 2 ^ 32 →
+    length past.readings + (length unit.items + length attempt.items + waiting_count waiting)
+    + spare < 2 ^ 32 →
     (HasRoomFor d.spare script.power d →
     HasRoomFor spare script.power
-    (record d { history = past; attempt = attempt; unit = unit; spare = spare })) →
+    (record d {
+      history = past;
+      attempt = attempt;
+      unit = unit;
+      waiting = waiting;
+      spare = spare;
+    })) →
     IsBoard program mode script
-    (record d { history = past; attempt = attempt; unit = unit; spare = spare })
-roomier_parts program mode script d past attempt unit spare marks readings items kept board time few
-    room = record {
+    (record d {
+      history = past;
+      attempt = attempt;
+      unit = unit;
+      waiting = waiting;
+      spare = spare;
+    })
+roomier_parts program mode script d past attempt unit waiting spare marks readings items kept events
+    board time few room = record {
       accepted = board.accepted;
       sizes = board.sizes;
-      served = board.served;
       scripted = board.scripted;
       sound =
-          sound_with_room (terms_of program mode) script.power d past attempt unit spare marks readings
-          items kept board.sound;
+          sound_with_room (terms_of program mode) script.power d past attempt unit waiting spare
+          marks readings items kept events board.sound;
       cursors = subst (λ (ms : List Mark). AreCursors script.postings ms d.cursors) (sym marks) board.cursors;
       steps = board.steps;
       counted = board.counted;
@@ -89,13 +117,13 @@ roomier_parts program mode script d past attempt unit spare marks readings items
 -- it is sound
 pub roomier_board : (program : Program) (mode : Mode) (script : Script) (d e : Device) →
     IsBoard program mode script d → IsRoomier d e →
-    e.clock + e.spare < 2 ^ 32 → length e.history.readings + length e.unit.items + length
-    e.attempt.items + e.spare < 2 ^ 32 →
+    e.clock + e.spare < 2 ^ 32 →
+    length e.history.readings + uncommitted e + e.spare < 2 ^ 32 →
     (HasRoomFor d.spare script.power d → HasRoomFor e.spare script.power e) →
     IsBoard program mode script e
 roomier_board program mode script d e board roomier time few room =
     subst (IsBoard program mode script) (sym roomier.same)
-    (roomier_parts program mode script d e.history e.attempt e.unit e.spare roomier.marks
-    roomier.readings roomier.attempt roomier.unit board
+    (roomier_parts program mode script d e.history e.attempt e.unit e.waiting e.spare
+    roomier.marks roomier.readings roomier.attempt roomier.unit roomier.events board
     (subst (λ (n : ℕ). n + e.spare < 2 ^ 32) (ap (λ (f : Device). f.clock) roomier.same) time) few
     (λ had. subst (HasRoomFor e.spare script.power) roomier.same (room had)))

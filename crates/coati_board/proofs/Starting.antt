@@ -11,10 +11,11 @@ use Rattle.serial_log.specs.declared.script.Script.{Script}
 use Rattle.coati_device.specs.declared.device.Device.{Device}
 use Rattle.coati_device.specs.Cursors.{AreCursors, HasRaised, cursor_of, first_cursor}
 use Rattle.coati_device.specs.Laws.{FreshDevicesAreSound, IsFresh}
+use Rattle.coati_device.specs.Waits.{count_all}
 use Rattle.coati_device.proofs.CursorMoves.{counts_all, none_skipped, skipped_few, skips_none}
 use Rattle.coati_board.specs.Board.{IsBoard, terms_of}
 use Rattle.coati_board.specs.Cursors.{first_cursors}
-use Rattle.coati_board.specs.Served.{IsScript, IsServed}
+use Rattle.coati_board.specs.Served.{IsScript}
 
 -- each device has raised none of its postings
 raised_none : (postings : List Posting) (device : ℕ) → HasRaised postings [] device (first_cursor postings device)
@@ -47,24 +48,25 @@ are_first postings = record {
 
 -- it is sound
 pub opened_board : (program : Program) (mode : Mode) (script : Script) (d : Device) →
-    IsAccepted program → HasSizes program → IsServed mode → IsScript program script →
+    IsAccepted program → HasSizes program → IsScript program script →
     IsFresh program mode script.power d → d.cursors ≡ first_cursors script.postings → d.spare ≡ 0 →
     length script.power + 1 ≤ d.history.mark_room → FreshDevicesAreSound →
     IsBoard program mode script d
-opened_board program mode script d accepted sizes served scripted fresh cursors no_spare enough law =
+opened_board program mode script d accepted sizes scripted fresh cursors no_spare enough law =
     let clock = fresh.clock in
     let steps = fresh.steps in
     let boots = fresh.boots in
     let readings : length d.history.readings ≡ 0 = ap (length {A = Reading}) fresh.readings in
     let attempt : length d.attempt.items ≡ 0 = ap (length {A = Reading}) fresh.attempt in
     let unit : length d.unit.items ≡ 0 = ap (length {A = Reading}) fresh.unit in
+    let events : count_all d.waiting.events ≡ 0 = ap count_all fresh.events in
+    let made : length d.waiting.made ≡ 0 = ap (length {A = Reading}) fresh.made in
     let finished = fresh.finished in
     let counted = fresh.accepted in record {
       accepted = accepted;
       sizes = sizes;
-      served = served;
       scripted = scripted;
-      sound = law (terms_of program mode) script.power d scripted.periods sizes served fresh;
+      sound = law (terms_of program mode) script.power d scripted.periods sizes fresh;
       cursors =
           subst (AreCursors script.postings d.history.marks) (sym cursors)
           (subst (λ (marks : List Mark). AreCursors script.postings marks (first_cursors script.postings))
@@ -80,6 +82,8 @@ opened_board program mode script d accepted sizes served scripted fresh cursors 
             marks = omega arith;
             attempt = omega arith;
             unit = omega arith;
+            waiting = omega arith;
+            places = omega arith;
             records = omega arith;
             few = omega arith;
           };

@@ -4,7 +4,8 @@ use Rattle.codegen.specs.Bodies.{program_code}
 use Rattle.coati_word.specs.declared.mode.Mode.{Mode}
 use Rattle.task_syntax.specs.declared.program.Program.{Program}
 use Rattle.serial_log.specs.declared.mark.Mark.{Mark}
-use Rattle.serial_log.specs.declared.mark.MarkKind.TheVariants.{Boot, Commit, Done}
+use Rattle.serial_log.specs.declared.mark.MarkKind.TheVariants.{Abort, Boot, Commit, Done}
+use Rattle.serial_log.specs.declared.abort.AbortOf.{AbortOf}
 use Rattle.serial_log.specs.declared.posted.Posted.{Posted as Raised}
 use Rattle.serial_log.specs.declared.record.Record.{Record}
 use Rattle.serial_log.specs.declared.script.Script.{Script}
@@ -19,7 +20,7 @@ use Rattle.coati_device.specs.declared.device.Phase.TheVariants.{Run}
 use Rattle.coati_device.specs.Cursors.{AreCursors}
 use Rattle.coati_device.specs.Kept.{Kept, after_turn, emptied}
 use Rattle.coati_device.specs.Rows.{IsRow, IsStepOf, phase_after, phase_of_bottom}
-use Rattle.coati_device.specs.Rows.IsRow.{applies, undoes, sleeps, empties, starts, runs, prepares, joins, commits, empties_entry, starts_bottom, runs_bottom, prepares_event, commits_event}
+use Rattle.coati_device.specs.Rows.IsRow.{applies, undoes, sleeps, empties, unflags, starts, runs, prepares, joins, commits, empties_entry, starts_bottom, runs_bottom, prepares_event, commits_event, aborts, prepares_drain, drains}
 use Rattle.coati_device.specs.Ticks.{cut, passed, ticked}
 use Rattle.coati_device.proofs.CursorMoves.{cursors_stay}
 use Rattle.coati_board.specs.Board.{IsBoard, end_of, end_of_kind, terms_of}
@@ -43,6 +44,11 @@ commit_tells (mark ∷ marks) at committed = tells_behind mark _ marks (commit_t
 done_tells : (marks : List Mark) (at task : ℕ) → TellsNothing (marks ++ record { at = at; kind = Done task } ∷ []) marks
 done_tells [] at task = record { ends = refl; raised = refl }
 done_tells (mark ∷ marks) at task = tells_behind mark _ marks (done_tells marks at task)
+
+abort_tells : (marks : List Mark) (at : ℕ) (aborted : AbortOf) →
+    TellsNothing (marks ++ record { at = at; kind = Abort aborted } ∷ []) marks
+abort_tells [] at aborted = record { ends = refl; raised = refl }
+abort_tells (mark ∷ marks) at aborted = tells_behind mark _ marks (abort_tells marks at aborted)
 
 boot_tells : (marks : List Mark) (at number : ℕ) → TellsNothing (marks ++ record { at = at; kind = Boot number } ∷ []) marks
 boot_tells [] at number = record { ends = refl; raised = refl }
@@ -69,7 +75,9 @@ module _ (old : Device) where
   row_leaves program code new (undoes change image clear next written is) = rw is (without_mark image old.phase old.attempt)
   row_leaves program code new (sleeps chooses halted is) = rw is (without_mark old.image old.phase old.attempt)
   row_leaves program code new (empties image chooses some long written is) = rw is (without_mark image old.phase old.attempt)
-  row_leaves program code new (starts cpu chooses some empty start is) =
+  row_leaves program code new (unflags change image chooses some empty buffi next written is) =
+      rw is (without_mark image old.phase old.attempt)
+  row_leaves program code new (starts cpu chooses some empty unflagged start is) =
       rw is (without_mark old.image (Run cpu) (emptied old.attempt))
   row_leaves program code new (runs before after image turn phase body clear step is) =
       rw is (without_mark image (phase_after after turn) (after_turn old.attempt turn))
@@ -86,6 +94,22 @@ module _ (old : Device) where
   row_leaves program code new (prepares_event image ends other written is) = rw is (without_mark image old.phase old.attempt)
   row_leaves program code new (commits_event image ends ready written is) =
       rw is (record { told = commit_tells old.history.marks _ _; cursors = refl; accepted = refl; finished = omega arith })
+  row_leaves program code new (aborts word image draining conflict after is) =
+      rw is (record {
+        told = abort_tells old.history.marks _ _;
+        cursors = refl;
+        accepted = refl;
+        finished = omega arith;
+      })
+  row_leaves program code new (prepares_drain image free other written is) =
+      rw is (without_mark image old.phase old.attempt)
+  row_leaves program code new (drains image free ready written is) =
+      rw is (record {
+        told = commit_tells old.history.marks _ _;
+        cursors = refl;
+        accepted = refl;
+        finished = omega arith;
+      })
 
 time_leaves : (periods : List ℕ) (d : Device) (is_over : Bool) → LeavesBeside d (if is_over then cut periods d else passed d)
 time_leaves periods d true =
@@ -119,6 +143,9 @@ pub record Steps (program : Program) (mode : Mode) (script : Script)
     (old new : Device) : Type 0 where
   pub board : IsBoard program mode script new
   pub open_still : end_of new.history.marks ≡ None
+  pub clock : new.clock ≡ old.clock + 1
+  pub steps : new.steps ≡ old.steps + 1
+  pub spare : new.spare + 1 ≡ old.spare
   pub grows : AreRecordsGrown old new
 
 module _ (program : Program) (mode : Mode) (script : Script) (old new : Device)
@@ -141,7 +168,6 @@ module _ (program : Program) (mode : Mode) (script : Script) (old new : Device)
         board = record {
           accepted = board.accepted;
           sizes = board.sizes;
-          served = board.served;
           scripted = board.scripted;
           sound = has.sound;
           cursors =
@@ -157,6 +183,9 @@ module _ (program : Program) (mode : Mode) (script : Script) (old new : Device)
           room = λ still. subst (λ (n : ℕ). HasRoomFor n script.power new) (sym left) has.room;
         };
         open_still = leaves.told.ends ∙ open_;
+        clock = has.clock;
+        steps = has.steps;
+        spare = omega (arith, left, spare);
         grows = has.grows;
       }
 

@@ -23,11 +23,11 @@ use Rattle.task_syntax.specs.Names.{opening_values}
 use Rattle.coati_device.specs.declared.device.Device.{Device}
 use Rattle.coati_device.specs.Cursors.{AreCursors, cursor_of}
 use Rattle.coati_device.specs.Laws.{IsFresh}
-use Rattle.coati_device.specs.Points.{HasRoomFor, IsSound}
+use Rattle.coati_device.specs.Points.{HasRoomFor, IsSound, uncommitted}
 use Rattle.coati_device.specs.Raises.{Raises}
 use Rattle.coati_device.specs.Rows.{IsStepOf}
 use Rattle.coati_board.specs.Cursors.{first_cursors, first_place}
-use Rattle.coati_board.specs.Served.{IsScript, IsServed}
+use Rattle.coati_board.specs.Served.{IsScript}
 
 pub record Whole : Type 0 where
   pub program : Program
@@ -122,7 +122,6 @@ pub record IsOver (board : Whole) : Type 0 where
 pub record IsBoard (program : Program) (mode : Mode) (script : Script) (d : Device) : Type 0 where
   pub accepted : IsAccepted program
   pub sizes : HasSizes program
-  pub served : IsServed mode
   pub scripted : IsScript program script
   pub sound : IsSound (terms_of program mode) (program_code program) script.power d
   pub cursors : AreCursors script.postings d.history.marks d.cursors
@@ -131,8 +130,7 @@ pub record IsBoard (program : Program) (mode : Mode) (script : Script) (d : Devi
   pub finished : d.finished ≤ d.clock
   pub limit : d.steps ≤ script.limit
   pub time : d.clock + d.spare < 2 ^ 32
-  pub few : length d.history.readings + length d.unit.items + length d.attempt.items + d.spare
-      < 2 ^ 32
+  pub few : length d.history.readings + uncommitted d + d.spare < 2 ^ 32
   pub room : end_of d.history.marks ≡ None → HasRoomFor d.spare script.power d
 
 -- all but the room is as it was
@@ -141,10 +139,13 @@ pub record IsRoomier (old new : Device) : Type 0 where
     history = new.history;
     attempt = new.attempt;
     unit = new.unit;
+    waiting = new.waiting;
     spare = new.spare;
   }
   pub marks : new.history.marks ≡ old.history.marks
   pub readings : new.history.readings ≡ old.history.readings
   pub attempt : new.attempt.items ≡ old.attempt.items
   pub unit : new.unit.items ≡ old.unit.items
+  pub events : new.waiting.events ≡ old.waiting.events
+  pub made : new.waiting.made ≡ old.waiting.made
   pub spare : old.spare ≤ new.spare

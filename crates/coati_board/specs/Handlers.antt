@@ -14,7 +14,9 @@ use Rattle.word_cpu.specs.UnderWay as machine
 use Rattle.coati_device.specs.declared.device.Device.{Device}
 use Rattle.coati_device.specs.declared.hand.Hand.{Hand}
 use Rattle.coati_device.specs.declared.hand.Hand.TheVariants.{Accept, Fill, Over, Top}
-use Rattle.coati_device.specs.Laws.{Fits}
+use Rattle.coati_device.specs.declared.hand.Hand.TheVariants as hands
+use Rattle.coati_device.specs.HandlerView.{handler_view}
+use Rattle.coati_device.specs.Laws.{Fits, HoldsItsEvents}
 use Rattle.coati_device.specs.Points.{IsTimed}
 use Rattle.coati_device.specs.Raises.{first_hand}
 use Rattle.coati_device.specs.ScratchView.{scratch_view}
@@ -25,23 +27,41 @@ pub record CanStepOnTop (code : Bodies) (cpu : Cpu) (words : List ℕ) : Type 0 
   pub few : length words ≤ 2 ^ 16
   pub ready : machine.IsReady scratch_view code cpu words
 
--- the next part of a posting can be written
-pub record CanFill (message : List ℕ) (part : ℕ) (d : Device) : Type 0 where
+-- the next part of a posting can be written, and its bottom half started behind it
+pub record CanFill (code : Bodies) (event : ℕ) (message : List ℕ) (part : ℕ) (d : Device)
+    : Type 0 where
   pub range : InRange (state d.image)
   pub part_low : part < length message + 2
+  pub exists : HasBody code (body.Bottom event)
+
+-- the machine can make its next step in the bottom half of a handler
+pub record CanStepInBottom (code : Bodies) (cpu : Cpu) (d : Device) : Type 0 where
+  pub range : InRange (state d.image)
+  pub free : is_full (state d.image) ≡ false
+  pub exists : HasBody code cpu.body
+  pub few : length (handler_view.words d.image) ≤ 2 ^ 16
+  pub ready : machine.IsReady handler_view code cpu d.image
+  pub room : 0 < d.waiting.room
 
 -- the posting can be accepted
 pub record CanAccept (d : Device) : Type 0 where
   pub range : InRange (state d.image)
   pub room : is_full (state d.image) ≡ false
   pub count : d.accepted + 1 < 2 ^ 32
+  pub places : 0 < d.waiting.places
 
--- a handler can make its next step
-abbrev pub CanHandStep : Bodies → Hand → Device → Type 0
-CanHandStep code (Top cpu words) d = CanStepOnTop code cpu words
-CanHandStep code (Fill message part) d = CanFill message part d
-CanHandStep code Accept d = CanAccept d
-CanHandStep code Over d = ⊥
+-- a handler of an event can make its next step
+abbrev pub CanHandStep : Bodies → ℕ → Hand → Device → Type 0
+CanHandStep code event (Top cpu words) d = CanStepOnTop code cpu words
+CanHandStep code event (Fill message part) d = CanFill code event message part d
+CanHandStep code event (hands.Bottom cpu) d = CanStepInBottom code cpu d
+CanHandStep code event Accept d = CanAccept d
+CanHandStep code event Over d = ⊥
+
+-- there is room for what a handler reads, and for its event
+pub record HasRoomToWait (d : Device) : Type 0 where
+  pub readings : d.spare ≤ d.waiting.room
+  pub places : 0 < d.waiting.places
 
 -- a posting of an event can be handled: the buffer has room, and there is time and room for the
 -- handler
@@ -53,6 +73,8 @@ pub record CanHandle (program : Program) (event : ℕ) (d : Device) : Type 0 whe
   pub spare : handler_bound program ≤ d.spare
   pub time : d.clock + d.spare < 2 ^ 32
   pub count : d.accepted + 1 < 2 ^ 32
+  pub events : HoldsItsEvents program d
+  pub waiting : HasRoomToWait d
   pub periods : List ℕ
   pub timed : IsTimed periods d.clock d.boots d.until
   pub few_periods : length periods ≤ 4096

@@ -7,9 +7,10 @@ use Rattle.task_cost.specs.Limits.{handler_bound}
 use Rattle.task_syntax.specs.declared.program.Program.{Program}
 use Rattle.coati_device.specs.declared.device.Device.{Device}
 use Rattle.coati_device.specs.Cursors.{cursor_of, next_posting}
-use Rattle.coati_device.specs.Laws.{Fits}
+use Rattle.coati_device.specs.Laws.{Fits, HoldsItsEvents}
 use Rattle.coati_device.specs.Points.{IsTimed}
 use Rattle.coati_board.specs.Cursors.{HasPosting}
+use Rattle.coati_board.specs.Handlers.{HasRoomToWait}
 
 -- the next posting of a device can be answered
 pub record CanAnswer (postings : List Posting) (d : Device) (number : ℕ) : Type 0 where
@@ -30,5 +31,7 @@ pub record CanRaise (program : Program) (script : Script) (d : Device) (number :
   pub some : 0 < d.spare
   pub time : d.clock + d.spare < 2 ^ 32
   pub count : d.accepted + 1 < 2 ^ 32
+  pub events : HoldsItsEvents program d
+  pub waiting : HasRoomToWait d
   pub timed : IsTimed script.power d.clock d.boots d.until
   pub few_periods : length script.power ≤ 4096

@@ -1,13 +1,8 @@
--- What a board serves so far: mode split, and scripts of the program's events.
-use Rattle.std.specs.Prelude.{◌≡◌, ◌≤◌, ◌<◌, All, length}
-use Rattle.coati_word.specs.declared.mode.Mode.{Mode}
-use Rattle.coati_word.specs.declared.mode.Mode.TheVariants.{Split}
+-- What a board serves: scripts of the events of its program.
+use Rattle.std.specs.Prelude.{◌≤◌, ◌<◌, All, length}
 use Rattle.serial_log.specs.declared.script.Posting.{Posting}
 use Rattle.serial_log.specs.declared.script.Script.{Script}
 use Rattle.task_syntax.specs.declared.program.Program.{Program}
-
-abbrev pub IsServed : Mode → Type 0
-IsServed mode = mode ≡ Split
 
 -- a posting of one of the devices, of an event of the program
 pub record IsPosting (program : Program) (posting : Posting) : Type 0 where

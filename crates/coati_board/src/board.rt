@@ -8,7 +8,7 @@ ghost use Rattle.nv_memory.specs.State.{state};
 ghost use Rattle.serial_log.specs.declared.record.Record.{Record};
 ghost use Rattle.serial_log.specs.History.{HasRecord, readings_in, with_mark};
 ghost use Rattle.serial_log.specs.Legal.{IsLegalHistory};
-ghost use Rattle.serial_log.specs.Progresses.{ServesBetweenUnits};
+ghost use Rattle.serial_log.specs.Progresses.{ServesAborts, ServesAtOnce, ServesBetweenUnits};
 ghost use Rattle.serial_log.specs.Scripted.{AreBootsAtPeriods};
 ghost use Rattle.serial_log.specs.SerialRun.{stand_of};
 ghost use Rattle.serial_log.specs.Standing.{standing_of};
@@ -17,16 +17,16 @@ ghost use Rattle.event_buffer.specs.Fill.{is_full};
 ghost use Rattle.task_cost.specs.Limits.{handler_bound};
 ghost use Rattle.task_check.specs.Sizes.{HasSizes};
 ghost use Rattle.task_syntax.specs.Names.{opening_values, word_count};
-ghost use Rattle.coati_device.specs.Points.{HasRoomFor, StandsFor};
+ghost use Rattle.coati_device.specs.Points.{HasRoomFor, StandsFor, uncommitted};
 ghost use Rattle.coati_board.specs.Board.{IsBlankImage, IsBoardStep, IsFreshDevice, IsIdleBoard, IsOpen, IsOpened, IsOver, IsRaise, IsRefused, IsRoomier, IsSameRun, end_of, first_left, left_of, terms_of};
-ghost use Rattle.coati_board.specs.Served.{IsScript, IsServed};
+ghost use Rattle.coati_board.specs.Served.{IsScript};
 
 use crate::cursors::{first_cursors, first_left};
 use crate::raise::raise;
 use crate::step::advance;
 use coati_device::laws::{devices_are_sound, steps_keep_devices};
 use coati_device::raise_laws::raises_keep_devices;
-use coati_device::{Device, Phase, Readings};
+use coati_device::{Device, Phase, Readings, Waiting};
 use coati_word::limits::HALT;
 use coati_word::{Mode, OutOfMemory};
 use commit_log::committed;
@@ -80,7 +80,6 @@ impl Board {
         mode: Mode,
         script: Script,
     ) -> Result<Board, OutOfMemory>
-        requires served { IsServed mode }
         requires code { code ≡ program_code checked }
         requires script { IsScript checked script }
         ensures { IfOk result (IsOpened checked mode script) }
@@ -262,7 +261,8 @@ impl Board {
     }
 
     /// The history: it is legal, memory stands for where it leads, its boots are at the ends of
-    /// the power periods, and events are served between units.
+    /// the power periods, and events are served between units, or in mode `buffi` at once. Behind
+    /// an abort its event comes first.
     pub fn history(&self) -> &History
         ensures history { result.now ≡ self.now.device.history }
         ensures legal { IsLegalHistory (terms_of self.now.program self.now.mode)
@@ -271,7 +271,11 @@ impl Board {
             (standing_of self.now.program self.now.device.history.marks) }
         ensures boots { AreBootsAtPeriods self.now.program self.now.script.power
             self.now.device.clock self.now.device.history.marks }
-        ensures turns { ServesBetweenUnits self.now.program self.now.device.history.marks }
+        ensures split { self.now.mode ≡ Mode.Split →
+            ServesBetweenUnits self.now.program self.now.device.history.marks }
+        ensures buffi { self.now.mode ≡ Mode.Buffi →
+            ServesAtOnce self.now.program self.now.device.history.marks }
+        ensures aborts { ServesAborts self.now.device.history.marks }
     {
         devices_are_sound();
         &self.device.history
@@ -360,6 +364,7 @@ fn fresh_device(
         history,
         attempt: Readings::new(alloc),
         unit: Readings::new(alloc),
+        waiting: Waiting::new(alloc),
         finished: 0,
         accepted: 0,
         cursors: first_cursors(script.postings.as_slice()),
@@ -407,16 +412,16 @@ pub(crate) fn period(periods: &[u32], number: u32) -> u32
 // Makes room for so many steps, for so many boots to come, and for the End mark.
 fn make_room(device: &mut Device, steps: u32, boots: u32) -> Result<(), OutOfMemory>
     requires boots { boots ≤ 4096 }
-    requires few { length device.old.history.readings + length device.old.unit.items
-        + length device.old.attempt.items + device.old.spare < 2 ^ 32 }
+    requires few { length device.old.history.readings + uncommitted device.old + device.old.spare
+        < 2 ^ 32 }
     ensures same { IsRoomier device.old device.new }
     ensures room { OnOk result (steps ≤ device.new.spare) }
     ensures refused { OnErr result (device.new.spare ≡ device.old.spare) }
     ensures enough { (periods : List ℕ) → length periods - device.old.boots ≡ boots
         → HasRoomFor device.old.spare periods device.old
         → HasRoomFor device.new.spare periods device.new }
-    ensures few { length device.new.history.readings + length device.new.unit.items
-        + length device.new.attempt.items + device.new.spare < 2 ^ 32 }
+    ensures few { length device.new.history.readings + uncommitted device.new + device.new.spare
+        < 2 ^ 32 }
     ensures time { device.old.clock + device.old.spare < 2 ^ 32
         → device.new.clock + device.new.spare < 2 ^ 32 }
 {
@@ -425,8 +430,7 @@ fn make_room(device: &mut Device, steps: u32, boots: u32) -> Result<(), OutOfMem
     }
     let read = device.attempt.as_slice().len() as u32;
     let to_keep = read.checked_add(steps).ok_or(OutOfMemory)?;
-    let kept = device.unit.as_slice().len() as u32;
-    let to_record = kept.checked_add(to_keep).ok_or(OutOfMemory)?;
+    let to_record = uncommitted(device).checked_add(steps).ok_or(OutOfMemory)?;
     let marks = steps.checked_add(boots + 1).ok_or(OutOfMemory)?;
     device
         .history
@@ -437,6 +441,17 @@ fn make_room(device: &mut Device, steps: u32, boots: u32) -> Result<(), OutOfMem
     device.history.reserve(marks, to_record)?;
     device.unit.reserve(to_keep)?;
     device.attempt.reserve(steps)?;
+    device.waiting.reserve(steps)?;
     device.spare = steps;
     Ok(())
+}
+
+// How many readings are in no record yet.
+fn uncommitted(device: &Device) -> u32
+    requires { uncommitted device.now < 2 ^ 32 }
+    ensures { result ≡ uncommitted device.now }
+{
+    let kept = device.unit.as_slice().len() as u32;
+    let read = device.attempt.as_slice().len() as u32;
+    kept + read + device.waiting.count()
 }

@@ -1,29 +1,37 @@
 //! The handler of a posting: its top half runs, what that gives is written into the buffer, and
-//! the posting is accepted. Each step is one machine step, behind which the power may be cut.
+//! the posting is accepted. In mode `buffi` its bottom half runs before that. Each step is one
+//! machine step, behind which the power may be cut.
 
 ghost use Rattle.std.specs.Prelude.{◌≡◌, ◌↔◌, ◌<◌, ◌∷◌, ◌+◌, [], IsTrue, List, ℕ, length};
 ghost use Rattle.codegen.specs.Bodies.{program_code};
+ghost use Rattle.nv_memory.specs.Seats.{Memory};
 ghost use Rattle.task_syntax.specs.declared.body.BodyId.TheVariants as body;
 ghost use Rattle.task_syntax.specs.Events.{message_of};
+ghost use Rattle.word_code.specs.Code.{Bodies};
 ghost use Rattle.word_cpu.specs.declared.cpu.Cpu.{Cpu as Machine};
 ghost use Rattle.word_cpu.specs.declared.turn.Turn.{Turn as Step};
 ghost use Rattle.word_cpu.specs.Turning.{IsStep};
 ghost use Rattle.word_cpu.specs.UnderWay.{IsAtStart};
-ghost use Rattle.coati_device.specs.Raises.{Handles, IsHandStep, after_fill, after_top, first_hand};
+ghost use Rattle.coati_device.specs.HandlerView.{handler_view};
+ghost use Rattle.coati_device.specs.Raises.{Handles, IsHandStep, after_bottom, after_top, first_hand};
 ghost use Rattle.coati_device.specs.ScratchView.{scratch_view};
-ghost use Rattle.coati_board.specs.Handlers.{CanHandStep, CanHandle, CanStepOnTop, IsAtHandler, LeavesTheRest};
+ghost use Rattle.coati_device.specs.Waits.{waits_after};
+ghost use Rattle.coati_board.specs.Handlers.{CanAccept, CanFill, CanHandStep, CanHandle, CanStepInBottom, CanStepOnTop, IsAtHandler, LeavesTheRest};
 
+use crate::handler_view::HandlerView;
 use crate::tick::pass;
 use crate::writes::put;
 use coati_device::{Device, Hand, Scratch};
 use coati_word::{Ending, Message};
+use buffi_sets::laws::handlers_read_behind_held_events;
 use codegen::laws::{accepted_programs_compute_their_courses, bodies_stand_by_number};
 use event_buffer::laws::{accepts_add_the_newest, parts_fill_the_slot, the_tail_entry_is_free};
 use event_buffer::{accept_write, fill_write};
 use serial_log::Answer;
 use task_check::Checked;
 use task_syntax::BodyId;
-use task_syntax::laws::{accesses_join_up, courses_under_way_go_on};
+use task_buffer::laws::stores_set_the_value;
+use task_syntax::laws::{accesses_join_up, courses_under_way_go_on, last_writes_tell_the_store};
 use word_code::Code;
 use word_code::laws::{following_goes_on, instructions_are_their_words};
 use word_cpu::{Cpu, Turn};
@@ -57,9 +65,12 @@ fn run(code: &Code, device: &mut Device, event: u16, first: Hand) -> Answer
 {
     accesses_join_up();
     courses_under_way_go_on();
+    last_writes_tell_the_store();
     following_goes_on();
     instructions_are_their_words();
     accepted_programs_compute_their_courses();
+    stores_set_the_value();
+    handlers_read_behind_held_events();
     bodies_stand_by_number();
     parts_fill_the_slot();
     the_tail_entry_is_free();
@@ -79,20 +90,15 @@ fn run(code: &Code, device: &mut Device, event: u16, first: Hand) -> Answer
 
 // One machine step of a handler, before its time.
 fn step(code: &Code, device: &mut Device, event: u16, hand: Hand) -> Hand
-    requires { CanHandStep code.now hand device.old }
+    requires { CanHandStep code.now event hand device.old }
     ensures { IsHandStep code.now event hand device.old result device.new }
 {
     match hand {
         Hand::Top(cpu, words) => top_step(code, cpu, words),
-        Hand::Fill(message, part) => {
-            let write = fill_write(&device.image, event, &message, part);
-            put(&mut device.image, write);
-            after_fill(message, part)
-        }
+        Hand::Fill(message, part) => fill(code, device, event, message, part),
+        Hand::Bottom(cpu) => bottom_step(code, device, cpu),
         Hand::Accept => {
-            let write = accept_write(&device.image);
-            put(&mut device.image, write);
-            device.accepted += 1;
+            accept(device);
             Hand::Over
         }
         Hand::Over => unreachable!(),
@@ -123,15 +129,65 @@ fn message_of(ending: Ending) -> Message
     }
 }
 
-// Behind the last part of a posting comes the write that accepts it.
-fn after_fill(message: Message, part: u16) -> Hand
-    requires { part < length message + 2 }
-    ensures { result ≡ after_fill message part }
+// A part of the posting is written. Behind the last one the posting is accepted; in mode `buffi`
+// its bottom half comes first.
+fn fill(code: &Code, device: &mut Device, event: u16, message: Message, part: u16) -> Hand
+    requires { CanFill code.now event message part device.old }
+    ensures { IsHandStep code.now event (Hand.Fill message part) device.old result device.new }
 {
-    if part as usize == message.as_slice().len() + 1 {
-        Hand::Accept
-    } else {
-        Hand::Fill(message, part + 1)
+    let is_buffi = device.image.is_buffi();
+    let write = fill_write(&device.image, event, &message, part);
+    put(&mut device.image, write);
+    if part as usize != message.as_slice().len() + 1 {
+        return Hand::Fill(message, part + 1);
+    }
+    if !is_buffi {
+        return Hand::Accept;
+    }
+    device.waiting.begin();
+    Hand::Bottom(Cpu::start(
+        code,
+        BodyId::Bottom(event),
+        message.as_slice(),
+    ))
+}
+
+// A step of the machine in the bottom half.
+fn bottom_step(code: &Code, device: &mut Device, mut cpu: Cpu) -> Hand
+    requires { CanStepInBottom code.now cpu device.old }
+    ensures { (after : Machine) × (image : Memory) × (turn : Step)
+        × IsStep handler_view code.now cpu after device.old.image image turn
+        × (device.new ≡ record device.old {
+          image = image;
+          waiting = waits_after device.old.waiting turn;
+        }) × (result ≡ after_bottom after turn) }
+{
+    let mut view = HandlerView {
+        image: &mut device.image,
+    };
+    match cpu.step(code, &mut view) {
+        Turn::Went(Some(reading)) => {
+            device.waiting.push(reading);
+            Hand::Bottom(cpu)
+        }
+        Turn::Went(None) => Hand::Bottom(cpu),
+        Turn::Storing => Hand::Bottom(cpu),
+        Turn::Ended(_ending) => Hand::Accept,
+    }
+}
+
+// The posting is accepted. In mode `buffi` its event waits for its commit with what it has read.
+fn accept(device: &mut Device)
+    requires { CanAccept device.old }
+    ensures { (code : Bodies) (event : ℕ)
+        → IsHandStep code event Hand.Accept device.old Hand.Over device.new }
+{
+    let is_buffi = device.image.is_buffi();
+    let write = accept_write(&device.image);
+    put(&mut device.image, write);
+    device.accepted += 1;
+    if is_buffi {
+        device.waiting.hold();
     }
 }
 

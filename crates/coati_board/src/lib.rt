@@ -7,12 +7,15 @@ mod bottom_rows;
 mod bottom_view;
 mod commit;
 mod cursors;
+mod drain_rows;
 mod handler;
+mod handler_view;
 mod raise;
 mod rows;
 mod step;
 mod task_view;
 mod tick;
+mod units;
 mod writes;
 
 pub use board::Board;

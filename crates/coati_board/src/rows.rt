@@ -1,37 +1,40 @@
 //! The rows of the executor's table: each is one machine step, and writes one word of memory at
 //! most.
 
-ghost use Rattle.std.specs.Prelude.{◌≡◌, ◌≢◌, ◌+◌, ◌^◌, ◌<◌, ◌≤◌, true, false};
+ghost use Rattle.std.specs.Prelude.{◌≡◌, ◌≢◌, ◌+◌, ◌^◌, ◌<◌, ◌≤◌, ◌↔◌, IfSome, IsNone, IsTrue, true, false};
+ghost use Rattle.buffi_sets.specs.Flags.{HasNoFlag};
 ghost use Rattle.codegen.specs.Bodies.{program_code};
 ghost use Rattle.nv_memory.specs.InRange.{InRange};
 ghost use Rattle.nv_memory.specs.Logs.{log_length};
 ghost use Rattle.nv_memory.specs.State.{state};
-ghost use Rattle.nv_memory.specs.Words.{current, doomed, mark, next};
+ghost use Rattle.nv_memory.specs.Words.{current, doomed, mark, mode, next};
 ghost use Rattle.nv_memory.specs.declared.log.Log.TheVariants as log;
 ghost use Rattle.task_syntax.specs.declared.body.BodyId.TheVariants as body;
 ghost use Rattle.task_syntax.specs.declared.program.Program.{Program};
-ghost use Rattle.task_syntax.specs.Units.{halt, is_inside, place_after, transaction_of};
+ghost use Rattle.task_syntax.specs.Units.{halt, is_inside, place_after};
 ghost use Rattle.word_code.specs.Code.{Bodies, HasBody};
-ghost use Rattle.coati_device.specs.Kept.{unit_of};
 ghost use Rattle.coati_device.specs.Laws.{Rows};
 ghost use Rattle.coati_device.specs.Rows.{Chooses, Ends, IsClear, IsRow};
-ghost use Rattle.coati_board.specs.Ready.{CanAct, HasRoomToEnd, Runs, RunsTheTask};
+ghost use Rattle.coati_board.specs.Ready.{CanAct, ComesToDrain, HasRoomToEnd, Runs, RunsTheTask, UnflagsBy};
 
 use crate::bottom_rows::{choose_event, end_bottom_half, run_bottom_half};
 use crate::commit::commit;
+use crate::drain_rows::drain;
 use crate::task_view::TaskView;
+use crate::units::{is_inside, unit_of};
 use crate::writes::put;
 use bottom_half::pick;
-use buffi_sets::abort_write;
+use buffi_sets::{abort_write, unflag_write};
 use coati_device::laws::rows_keep_fit;
 use coati_device::{Device, Phase};
 use coati_word::Ending;
 use coati_word::limits::HALT;
 use codegen::laws::bodies_stand_by_number;
 use commit_log::{Marker, mark_write, next_write, prepare_write};
-use nv_memory::Log;
+use event_buffer::held;
+use nv_memory::{Image, Log, Write};
 use reboot::after_cut;
-use serial_log::{Mark, MarkKind, Unit};
+use serial_log::{Mark, MarkKind};
 use task_buffer::reset_write;
 use task_check::Checked;
 use task_syntax::BodyId;
@@ -59,12 +62,23 @@ fn go_on(checked: &Checked, code: &Code, device: &mut Device)
     ensures { Rows checked.now device.old device.new }
 {
     rows_keep_fit();
+    let drains = drains(&device.image);
     match device.phase {
+        Phase::Choose if drains => drain(checked, device, false),
         Phase::Choose => choose(checked, code, device),
         Phase::Run(_) => run(code, device),
+        Phase::End(_) if drains => drain(checked, device, true),
         Phase::End(place) => end(checked, device, place),
         Phase::EndBottom => end_bottom_half(device),
     }
+}
+
+// Whether an event is to be committed before the tasks go on, in mode `buffi`.
+fn drains(image: &Image) -> bool
+    requires { InRange (state image.now) }
+    ensures { IsTrue result ↔ ComesToDrain (state image.now) }
+{
+    image.is_buffi() && held(image) > 0
 }
 
 // The next write of the commit under way.
@@ -96,6 +110,7 @@ fn choose(checked: &Checked, code: &Code, device: &mut Device)
     requires ready { CanAct checked.now device.old }
     requires clear { IsClear (state device.old.image) }
     requires chooses { device.old.phase ≡ Phase.Choose }
+    requires undrained { ¬ ComesToDrain (state device.old.image) }
     ensures { Rows checked.now device.old device.new }
 {
     bodies_stand_by_number();
@@ -105,9 +120,10 @@ fn choose(checked: &Checked, code: &Code, device: &mut Device)
     }
 }
 
-// The task to run starts, once the log that an attempt before has left is empty. Behind the last
-// task nothing is to do.
+// The task to run starts, once the log and the flags that an attempt before has left are gone.
+// Behind the last task nothing is to do.
 fn choose_task(code: &Code, device: &mut Device)
+    requires range { InRange (state device.old.image) }
     requires chooses { Chooses device.old }
     requires task { current (state device.old.image) ≢ halt
         → HasBody code.now (body.Task (current (state device.old.image))) }
@@ -119,7 +135,36 @@ fn choose_task(code: &Code, device: &mut Device)
     }
     match reset_write(&device.image, Log::Task) {
         Some(write) => put(&mut device.image, write),
+        None => start_unflagged(code, device, task),
+    }
+}
+
+// The task starts where no flag of an attempt before is left, in mode `buffi`.
+fn start_unflagged(code: &Code, device: &mut Device, task: u16)
+    requires range { InRange (state device.old.image) }
+    requires chooses { Chooses device.old }
+    requires task { task ≡ current (state device.old.image) }
+    requires some { task ≢ halt }
+    requires body { HasBody code.now (body.Task task) }
+    requires empty { log_length (state device.old.image) log.Task ≡ 0 }
+    ensures { (program : Program) → IsRow program code.now device.old device.new }
+{
+    match left_flag(&device.image) {
+        Some(write) => put(&mut device.image, write),
         None => start(code, device, task),
+    }
+}
+
+// The write that takes back a flag that an attempt before has left, in mode `buffi`.
+fn left_flag(image: &Image) -> Option<Write>
+    requires { InRange (state image.now) }
+    ensures write { IfSome result (UnflagsBy image.now) }
+    ensures none { IsNone result → mode (state image.now) ≡ 1 → HasNoFlag (state image.now) }
+{
+    if image.is_buffi() {
+        unflag_write(image)
+    } else {
+        None
     }
 }
 
@@ -130,6 +175,7 @@ fn start(code: &Code, device: &mut Device, task: u16)
     requires some { task ≢ halt }
     requires body { HasBody code.now (body.Task task) }
     requires empty { log_length (state device.old.image) log.Task ≡ 0 }
+    requires unflagged { mode (state device.old.image) ≡ 1 → HasNoFlag (state device.old.image) }
     ensures { (program : Program) → IsRow program code.now device.old device.new }
 {
     device.attempt.clear();
@@ -244,24 +290,4 @@ fn commit_unit(checked: &Checked, device: &mut Device, place: u16)
     device.finished = 0;
     device.attempt.clear();
     device.phase = Phase::Choose;
-}
-
-// Whether a place is in the transaction of a task.
-fn is_inside(checked: &Checked, task: u16, place: u16) -> bool
-    ensures { result ≡ is_inside checked.now task place }
-{
-    match checked.tx_of_task(task) {
-        Some(tx) => checked.tx_of_task(place) == Some(tx),
-        None => false,
-    }
-}
-
-// The unit of a task.
-fn unit_of(checked: &Checked, task: u16) -> Unit
-    ensures { result ≡ unit_of (transaction_of checked.now task) task }
-{
-    match checked.tx_of_task(task) {
-        Some(tx) => Unit::Transaction(tx),
-        None => Unit::Task(task),
-    }
 }

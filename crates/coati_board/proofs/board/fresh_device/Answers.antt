@@ -21,6 +21,8 @@ returns-clause-fresh c =
         readings = c.reserve.ensures.readings ∙ c.new-history.ensures.readings;
         attempt = c.new.ensures;
         unit = c.new-2.ensures;
+        events = c.new-3.ensures.events;
+        made = c.new-3.ensures.made;
         finished = refl;
         accepted = refl;
       };

@@ -6,6 +6,7 @@ use Rattle.coati_device.specs.declared.hand.Hand.TheVariants.{Over}
 use Rattle.coati_device.specs.Raises.{IsHandStep}
 use Rattle.coati_device.specs.Raises.Handles.{loses, takes}
 use Rattle.coati_device.specs.Raises.Ran.{begins, goes_on}
+use Rattle.coati_device.proofs.Messages.{messages_fit}
 use Rattle.coati_board.proofs.Handling.{CanGoOn, HasTime, goes_anywhere, has_time}
 use Rattle.coati_board.proofs.handler.run.Goals as goal
 use Rattle.coati_board.proofs.handler.run.Goals.{After-is_over}
@@ -13,16 +14,22 @@ use Rattle.coati_board.proofs.handler.run.Goals.{After-is_over}
 pub loop-hand-init : goal.loop-hand-init
 loop-hand-init c = begins
 
-going : (c : After-is_over) → CanGoOn c.args.code.now c.args.device.now c.loop-hand.hand c.loop-hand.device
+going : (c : After-is_over) → CanGoOn c.args.code.now c.args.event c.args.device.now c.loop-hand.hand c.loop-hand.device
 going c =
     goes_anywhere (record {
       joins = c.accesses_join_up.ensures;
       courses = c.courses_under_way_go_on.ensures.bodies;
+      lasts = c.last_writes_tell_the_store.ensures;
       follows = c.following_goes_on.ensures;
       decodes = c.instructions_are_their_words.ensures.nothing_else;
+      bottoms_compute = c.accepted_programs_compute_their_courses.ensures.bottoms;
+      messages = messages_fit;
+      stores = c.stores_set_the_value.ensures;
+      behind = c.handlers_read_behind_held_events.ensures;
       first = c.parts_fill_the_slot.ensures.first;
       parts = c.parts_fill_the_slot.ensures.parts;
       all_parts = c.parts_fill_the_slot.ensures.all;
+      logs = c.the_tail_entry_is_free.ensures.logs;
       free = c.the_tail_entry_is_free.ensures.free;
       adds = c.accepts_add_the_newest.ensures;
     }) c.accepted_programs_compute_their_courses.ensures.tops c.bodies_stand_by_number.ensures c.args.code.now c.args.event c.args.first
@@ -38,11 +45,17 @@ step-hand-requires c =
     (goes_anywhere (record {
       joins = c.accesses_join_up.ensures;
       courses = c.courses_under_way_go_on.ensures.bodies;
+      lasts = c.last_writes_tell_the_store.ensures;
       follows = c.following_goes_on.ensures;
       decodes = c.instructions_are_their_words.ensures.nothing_else;
+      bottoms_compute = c.accepted_programs_compute_their_courses.ensures.bottoms;
+      messages = messages_fit;
+      stores = c.stores_set_the_value.ensures;
+      behind = c.handlers_read_behind_held_events.ensures;
       first = c.parts_fill_the_slot.ensures.first;
       parts = c.parts_fill_the_slot.ensures.parts;
       all_parts = c.parts_fill_the_slot.ensures.all;
+      logs = c.the_tail_entry_is_free.ensures.logs;
       free = c.the_tail_entry_is_free.ensures.free;
       adds = c.accepts_add_the_newest.ensures;
     }) c.accepted_programs_compute_their_courses.ensures.tops c.bodies_stand_by_number.ensures c.args.code.now c.args.event c.args.first

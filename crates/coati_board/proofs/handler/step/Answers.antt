@@ -1,5 +1,8 @@
-use Rattle.std.proofs.Common.{refl}
-use Rattle.coati_device.specs.Raises.IsHandStep.{tops, fills, accepts}
+use Rattle.std.proofs.Common.{refl, subst, sym}
+use Rattle.coati_device.specs.declared.hand.Hand.{Hand}
+use Rattle.coati_device.specs.declared.hand.Hand.TheVariants.{Over}
+use Rattle.coati_device.specs.Raises.{IsHandStep}
+use Rattle.coati_device.specs.Raises.IsHandStep.{bottoms, tops}
 use Rattle.coati_board.proofs.handler.step.Goals as goal
 
 pub returns-in-Top : goal.returns-in-Top
@@ -9,9 +12,15 @@ returns-in-Top c =
 
 pub returns-in-Fill : goal.returns-in-Fill
 returns-in-Fill c =
-    fills c.in-Fill.message c.in-Fill.part c.put.new.image c.in-Fill.is (c.put.ensures _ c.fill_write-write.ensures).written refl
-    c.after_fill.ensures
+    subst (λ (hand : Hand). IsHandStep c.args.code.now c.args.event hand c.args.device.now
+    c.fill.result c.fill.new.device) (sym c.in-Fill.is) c.fill.ensures
+
+pub returns-in-Bottom : goal.returns-in-Bottom
+returns-in-Bottom c =
+    let (after, image, turn, made, new, is) = c.bottom_step.ensures in
+    bottoms c.in-Bottom.cpu after image turn c.in-Bottom.is made new is
 
 pub returns-in-Accept : goal.returns-in-Accept
 returns-in-Accept c =
-    accepts c.put-in-Accept.new.image c.in-Accept.is (c.put-in-Accept.ensures _ c.accept_write-write.ensures).written refl refl
+    subst (λ (hand : Hand). IsHandStep c.args.code.now c.args.event hand c.args.device.now Over
+    c.accept.new.device) (sym c.in-Accept.is) (c.accept.ensures c.args.code.now c.args.event)

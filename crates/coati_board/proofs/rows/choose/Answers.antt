@@ -4,7 +4,7 @@ use Rattle.nv_memory.specs.State.{state}
 use Rattle.task_syntax.specs.declared.body.BodyId.TheVariants.{Bottom}
 use Rattle.word_code.specs.Code.{Bodies, HasBody}
 use Rattle.coati_device.specs.Rows.{IsRow}
-use Rattle.coati_board.proofs.HeldPostings.{IsAtHead, has_bottom_half, known_at_head, none_picked, picked_at_head}
+use Rattle.coati_board.proofs.HeldPostings.{IsAtHead, has_bottom_half, known_at_head, none_picked, picked_at_head, split_where_held}
 use Rattle.coati_board.proofs.rows.choose.Goals as goal
 use Rattle.coati_board.proofs.rows.choose.Goals.{In-Some, In-None}
 
@@ -22,7 +22,13 @@ choose_event-requires-clause-chooses c =
     let head = at_head (goal.at.choose_event-requires-clause-chooses c).In-Some in record {
       phase = c.requires.chooses;
       clear = c.requires.clear;
-      events = record { mode = c.requires.ready.fit.memory.split; closed = head.closed; held = head.held };
+      events = record {
+        mode =
+            split_where_held (state c.args.device.now.image) c.requires.ready.fit.memory.mode
+            c.requires.undrained head.held;
+        closed = head.closed;
+        held = head.held;
+      };
     }
 
 pub choose_event-requires-clause-job : goal.choose_event-requires-clause-job
@@ -44,7 +50,10 @@ pub choose_task-requires-clause-chooses : goal.choose_task-requires-clause-choos
 choose_task-requires-clause-chooses c = record {
   phase = c.requires.chooses;
   clear = c.requires.clear;
-  tasks = none_picked (state c.args.device.now.image) (sym c.in-None.ensures) c.requires.ready.fit.memory.split;
+  tasks =
+      none_picked (state c.args.device.now.image) (sym c.in-None.ensures)
+      (split_where_held (state c.args.device.now.image) c.requires.ready.fit.memory.mode
+      c.requires.undrained);
 }
 
 pub returns-in-None : goal.returns-in-None

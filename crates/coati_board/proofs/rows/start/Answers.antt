@@ -8,5 +8,6 @@ use Rattle.coati_board.proofs.rows.start.Goals as goal
 pub returns : goal.returns
 returns c program =
     starts c.start.result c.requires.chooses (λ e. c.requires.some (cc)) c.requires.empty
+    c.requires.unflagged
     (subst (λ (task : ℕ). IsAtStart (Task task) [] c.start.result) c.requires.task c.start.ensures)
     (cc)

@@ -1,22 +1,38 @@
-use Rattle.std.proofs.Common.{subst}
-use Rattle.serial_log.specs.Progresses.{ServesBetweenUnits}
+use Rattle.std.proofs.Common.{◌≡◌, subst}
+use Rattle.coati_word.specs.declared.mode.Mode.TheVariants.{Buffi, Split}
+use Rattle.serial_log.specs.Progresses.{ServesAborts, ServesAtOnce, ServesBetweenUnits}
 use Rattle.serial_log.specs.Scripted.{AreBootsAtPeriods}
 use Rattle.coati_board.specs.Board.{Whole, terms_of}
+use Rattle.coati_device.specs.Laws.{IsToldWell}
 use Rattle.coati_board.proofs.board.Board.history.Goals as goal
+use Rattle.coati_board.proofs.board.Board.history.Goals.{After-self}
+
+told : (c : After-self) →
+    IsToldWell (terms_of c.self.inside.checked c.self.inside.mode) c.self.inside.script.power
+    c.self.inside.device
+told c =
+    let inside = c.self.inside in
+    let board = c.self.invariant.1 in
+    c.devices_are_sound.ensures.told (terms_of inside.checked inside.mode) inside.script.power
+    inside.device board.scripted.periods board.sound
 
 pub returns-clause-boots : goal.returns-clause-boots
 returns-clause-boots c =
-    let inside = c.self.inside in
-    let board = c.self.invariant.1 in
-    let told = c.devices_are_sound.ensures.told (terms_of inside.checked inside.mode)
-    inside.script.power inside.device board.scripted.periods board.sound in
     subst (λ (w : Whole). AreBootsAtPeriods w.program w.script.power w.device.clock
-    w.device.history.marks) c.self.view_is told.boots
+    w.device.history.marks) c.self.view_is
+    (told (goal.at.returns-clause-boots c).After-self).boots
 
-pub returns-clause-turns : goal.returns-clause-turns
-returns-clause-turns c =
-    let inside = c.self.inside in
-    let board = c.self.invariant.1 in
-    let told = c.devices_are_sound.ensures.told (terms_of inside.checked inside.mode)
-    inside.script.power inside.device board.scripted.periods board.sound in
-    subst (λ (w : Whole). ServesBetweenUnits w.program w.device.history.marks) c.self.view_is told.turns
+pub returns-clause-split : goal.returns-clause-split
+returns-clause-split c =
+    subst (λ (w : Whole). w.mode ≡ Split → ServesBetweenUnits w.program w.device.history.marks)
+    c.self.view_is (told (goal.at.returns-clause-split c).After-self).split
+
+pub returns-clause-buffi : goal.returns-clause-buffi
+returns-clause-buffi c =
+    subst (λ (w : Whole). w.mode ≡ Buffi → ServesAtOnce w.program w.device.history.marks)
+    c.self.view_is (told (goal.at.returns-clause-buffi c).After-self).buffi
+
+pub returns-clause-aborts : goal.returns-clause-aborts
+returns-clause-aborts c =
+    subst (λ (w : Whole). ServesAborts w.device.history.marks)
+    c.self.view_is (told (goal.at.returns-clause-aborts c).After-self).aborts

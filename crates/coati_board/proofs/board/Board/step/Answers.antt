@@ -1,4 +1,4 @@
-use Rattle.std.proofs.Common.{◌≡◌, ◌<◌, ◌∙◌, ap, sym, subst, None}
+use Rattle.std.proofs.Common.{◌≡◌, ◌+◌, ◌<◌, ◌∙◌, ap, sym, subst, None}
 use Rattle.std.specs.Prelude.{List, ℕ}
 use mathlib.Core.List.{IsPrefix}
 use Rattle.word_code.specs.Code.{Bodies}
@@ -37,6 +37,21 @@ invariant_of-self c =
 
 pub returns-clause-open : goal.returns-clause-open
 returns-clause-open c = (stepped (goal.at.returns-clause-open c).After-advance).open_still
+
+pub returns-clause-clock : goal.returns-clause-clock
+returns-clause-clock c =
+    let c = (goal.at.returns-clause-clock c).After-advance in
+    (stepped c).clock ∙ ap (λ (d : Device). d.clock + 1) (device_is c)
+
+pub returns-clause-steps : goal.returns-clause-steps
+returns-clause-steps c =
+    let c = (goal.at.returns-clause-steps c).After-advance in
+    (stepped c).steps ∙ ap (λ (d : Device). d.steps + 1) (device_is c)
+
+pub returns-clause-spare : goal.returns-clause-spare
+returns-clause-spare c =
+    let c = (goal.at.returns-clause-spare c).After-advance in
+    (stepped c).spare ∙ ap (λ (d : Device). d.spare) (device_is c)
 
 pub returns-clause-grows : goal.returns-clause-grows
 returns-clause-grows c =

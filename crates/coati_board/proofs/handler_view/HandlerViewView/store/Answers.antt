@@ -1,0 +1,26 @@
+use Rattle.coati_board.proofs.HandlerViewing.{begun_kept, word_below, words_kept, words_stored}
+use Rattle.coati_board.proofs.handler_view.HandlerViewView.store.Goals as goal
+
+pub store-requires-clause-word : goal.store-requires-clause-word
+store-requires-clause-word c =
+    word_below c.args.self.now.image.now c.args.word c.requires.word
+
+pub invariant_of-self : goal.invariant_of-self
+invariant_of-self c =
+    record { range = c.store.ensures.made.range; room = c.store.ensures.room }
+
+pub returns-clause-last : goal.returns-clause-last
+returns-clause-last c last =
+    words_stored c.args.self.now.image.now c.store.new.image c.args.word c.args.value c.args.part
+    c.store.result c.store.ensures.made c.store.ensures.behind last
+    (word_below c.args.self.now.image.now c.args.word c.requires.word)
+
+pub returns-clause-kept : goal.returns-clause-kept
+returns-clause-kept c last =
+    words_kept c.args.self.now.image.now c.store.new.image c.args.word c.args.value c.args.part
+    c.store.result c.store.ensures.made c.store.ensures.behind last
+
+pub returns-clause-begun : goal.returns-clause-begun
+returns-clause-begun c last =
+    begun_kept c.args.self.now.image.now c.store.new.image c.args.word c.args.value c.args.part
+    c.store.result c.store.ensures.made c.store.ensures.behind last

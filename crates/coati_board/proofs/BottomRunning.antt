@@ -25,9 +25,11 @@ abbrev view_meaning : Meaning BottomView
 view_meaning = record {
   words = λ v. bottom_view.words v.image.now;
   begun = λ v word value part. bottom_view.begun v.image.now word value part;
-  loaded = λ old word new. (new.image.ghost_name ≡ old.image.ghost_name) × bottom_view.loaded old.image.now word new.image.now;
+  loaded = λ old word new. (new.image.ghost_name ≡ old.image.ghost_name) × bottom_view.loaded
+      old.image.now word new.image.now;
   stored = λ old word value part new is_last.
-      (new.image.ghost_name ≡ old.image.ghost_name) × bottom_view.stored old.image.now word value part new.image.now is_last;
+      (new.image.ghost_name ≡ old.image.ghost_name) × bottom_view.stored old.image.now word value
+      part new.image.now is_last;
 }
 
 -- it shows the image's memory
@@ -40,14 +42,21 @@ view_shows = record {
 }
 
 -- a step on the view is the row of the machine
-pub runs_bottom_row : (program : Program) (code : Bodies) (d : Device) (before after : Cpu) (old new : BottomView) (turn seen : Turn) (phase : Phase) (attempt : Kept) →
-    IsStep view_meaning code before after old new turn → old.image.now ≡ d.image → d.phase ≡ Run before → RunsTheBottomHalf code d →
-    IsClear (state d.image) → turn ≡ seen → phase ≡ phase_of_bottom after seen → attempt ≡ after_turn d.attempt seen →
+pub runs_bottom_row : (program : Program) (code : Bodies) (d : Device) (before after : Cpu)
+    (old new : BottomView) (turn seen : Turn) (phase : Phase) (attempt : Kept) →
+    IsStep view_meaning code before after old new turn → old.image.now ≡ d.image →
+    d.phase ≡ Run before → RunsTheBottomHalf code d →
+    IsClear (state d.image) → turn ≡ seen → phase ≡ phase_of_bottom after seen →
+    attempt ≡ after_turn d.attempt seen →
     IsRow program code d (record d { image = new.image.now; phase = phase; attempt = attempt })
-runs_bottom_row program code d before after old new turn seen phase attempt step image_is phase_is can clear turn_is phase_after_is attempt_is =
+runs_bottom_row program code d before after old new turn seen phase attempt step image_is phase_is
+    can clear turn_is phase_after_is attempt_is =
     let same : can.cpu ≡ before = run_is can.cpu before (sym can.phase ∙ phase_is) in
-    runs_bottom before after new.image.now seen phase_is (ap (λ (cpu : Cpu). cpu.body) (sym same) ∙ can.body) clear can.events
+    runs_bottom before after new.image.now seen phase_is
+    (ap (λ (cpu : Cpu). cpu.body) (sym same) ∙ can.body) clear can.events
     (subst (λ (m : Memory). IsStep bottom_view code before after m new.image.now seen) image_is
-    (subst (λ (t : Turn). IsStep bottom_view code before after old.image.now new.image.now t) turn_is
-    (shown_step view_meaning bottom_view (λ (view : BottomView). view.image.now) view_shows before after old new code turn step)))
+    (subst (λ (t : Turn). IsStep bottom_view code before after old.image.now new.image.now t)
+    turn_is
+    (shown_step view_meaning bottom_view (λ (view : BottomView). view.image.now) view_shows before
+    after old new code turn step)))
     (rw (phase_after_is, attempt_is) refl)

@@ -22,8 +22,10 @@ use Rattle.coati_board.proofs.Viewing.{same_values, value_at_index, values_lengt
 pub word_below : (m : Memory) (word : ℕ) → word < length (bottom_words m) → word < m.n
 word_below m word low = rw (values_length (bottom_word (state m)) 0 m.n) at low
 
-pub word_at : (m : Memory) (word : ℕ) → word < length (bottom_words m) → slice_index (bottom_words m) word ≡ bottom_word (state m) word
-word_at m word low = value_at_index (bottom_word (state m)) 0 m.n word (word_below m word low) ∙ ap (bottom_word (state m)) (omega arith)
+pub word_at : (m : Memory) (word : ℕ) → word < length (bottom_words m) →
+    slice_index (bottom_words m) word ≡ bottom_word (state m) word
+word_at m word low = value_at_index (bottom_word (state m)) 0 m.n word (word_below m word low) ∙ ap
+    (bottom_word (state m)) (omega arith)
 
 -- the entry at the head has a log
 pub has_head_log : (s : State) → HasLog s.k (head_log s)
@@ -43,32 +45,44 @@ module _ (old new : Memory) (word value part : ℕ) (is_last : Bool)
   seen_step false under own = refl
 
   word_after : (other : ℕ) →
-      bottom_word (state new) other ≡ (if is_last && (word == other) then value else bottom_word (state old) other)
+      bottom_word (state new) other
+      ≡ (if is_last && (word == other) then value else bottom_word (state old) other)
   word_after other =
-      ap (λ (slot : ℕ). unwrap_or (log_value (state new) (log.Entry slot) other) (variable (state new) other)) same_slot
+      ap (λ (slot : ℕ). unwrap_or (log_value (state new) (log.Entry slot) other)
+      (variable (state new) other)) same_slot
       ∙ rw (made.log_after other, made.beside.variables other)
-      (seen_step (is_last && (word == other)) (variable (state old) other) (log_value (state old) (head_log (state old)) other))
+      (seen_step (is_last && (word == other)) (variable (state old) other)
+      (log_value (state old) (head_log (state old)) other))
 
-  pub words_stored : is_last ≡ true → word < old.n → bottom_words new ≡ slice_set (bottom_words old) word value
+  pub words_stored : is_last ≡ true → word < old.n →
+      bottom_words new ≡ slice_set (bottom_words old) word value
   words_stored last low =
       ap (values_from (bottom_word (state new)) 0) made.beside.words
-      ∙ (same_values (bottom_word (state new)) (λ other. if word == other then value else bottom_word (state old) other)
-      (λ other. word_after other ∙ ap (λ (b : Bool). if b && (word == other) then value else bottom_word (state old) other) last) 0 old.n
+      ∙ (same_values (bottom_word (state new))
+      (λ other. if word == other then value else bottom_word (state old) other)
+      (λ other. word_after other ∙ ap
+      (λ (b : Bool). if b && (word == other) then value else bottom_word (state old) other)
+      last) 0 old.n
       ∙ values_set (bottom_word (state old)) value 0 old.n word word low (omega arith))
 
   pub words_kept : is_last ≡ false → bottom_words new ≡ bottom_words old
   words_kept last =
       ap (values_from (bottom_word (state new)) 0) made.beside.words
       ∙ (same_values (bottom_word (state new)) (bottom_word (state old))
-      (λ other. word_after other ∙ ap (λ (b : Bool). if b && (word == other) then value else bottom_word (state old) other) last) 0 old.n)
+      (λ other. word_after other ∙ ap
+      (λ (b : Bool). if b && (word == other) then value else bottom_word (state old) other)
+      last) 0 old.n)
 
   -- the parts before the next one are made of the store into the same log
-  pub begun_kept : is_last ≡ false → IsBegun (state new) (head_log (state new)) word value (part + 1)
+  pub begun_kept : is_last ≡ false →
+      IsBegun (state new) (head_log (state new)) word value (part + 1)
   begun_kept more =
-      subst (λ (slot : ℕ). IsBegun (state new) (log.Entry slot) word value (part + 1)) (sym same_slot) (made.begun more)
+      subst (λ (slot : ℕ). IsBegun (state new) (log.Entry slot) word value (part + 1))
+      (sym same_slot) (made.begun more)
 
 -- the write of a part makes the part
-pub made_at_head : (old new : Memory) (own : Log) (word value part : ℕ) (is_last : Bool) → own ≡ head_log (state old) → InRange (state old) →
+pub made_at_head : (old new : Memory) (own : Log) (word value part : ℕ) (is_last : Bool) →
+    own ≡ head_log (state old) → InRange (state old) →
     word < old.n → IsBegun (state old) (head_log (state old)) word value part →
     state new ≡ put (state old) (store_change (state old) own word value part) →
     is_last ≡ store_ends (state old) own word part →
@@ -76,6 +90,7 @@ pub made_at_head : (old new : Memory) (own : Log) (word value part : ℕ) (is_la
 made_at_head old new own word value part is_last own_is range low begun e last =
     subst (λ (one : Log). Stores one word value part is_last (state old) (state new)) own_is
     (subst (λ (b : Bool). Stores own word value part b (state old) (state new)) (sym last)
-    (subst (λ (t : State). Stores own word value part (store_ends (state old) own word part) (state old) t) (sym e)
+    (subst (λ (t : State). Stores own word value part (store_ends (state old) own word part)
+    (state old) t) (sym e)
     (stores_set (state old) own word value range part low
     (subst (λ (one : Log). IsBegun (state old) one word value part) (sym own_is) begun))))

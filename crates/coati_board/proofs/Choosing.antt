@@ -9,11 +9,17 @@ pub record IsUndone (s : State) (seat : Seat) (value : ℕ) (change : Change) : 
   pub other : s.at seat ≢ value
   pub change_is : change ≡ set_to seat value
 
-undone_step : (here change : Change) (b : Bool) → (if b then None else Some here) ≡ Some change → (b ≡ false) × (change ≡ here)
+undone_step : (here change : Change) (b : Bool) → (if b then None else Some here) ≡ Some change →
+    (b ≡ false) × (change ≡ here)
 undone_step here change true e = absurd cc
 undone_step here change false e = (cc, cc)
 
-pub undone : (s : State) (seat : Seat) (value : ℕ) (change : Change) → first_undone s (set_to seat value ∷ []) ≡ Some change → IsUndone s seat value change
+pub undone : (s : State) (seat : Seat) (value : ℕ) (change : Change) →
+    first_undone s (set_to seat value ∷ []) ≡ Some change → IsUndone s seat value change
 undone s seat value change e =
     let step = undone_step (set_to seat value) change (s.at seat == value) e in
-    record { other = let test : (s.at seat == value) ≡ false = step.0 in λ same. grind (arith, nat_tests); change_is = step.1 }
+    record {
+      other = let test : (s.at seat == value) ≡ false = step.0 in
+          λ same. grind (arith, nat_tests);
+      change_is = step.1;
+    }

@@ -87,7 +87,8 @@ not_inside None other inside none = absurd cc
 not_inside (Some tx) None inside none = absurd cc
 not_inside (Some tx) (Some member) inside none = absurd cc
 
-none_waits : (program : Program) (entries : List Entry) (rest : List Held) → AreHeld program entries rest →
+none_waits : (program : Program) (entries : List Entry) (rest : List Held) →
+    AreHeld program entries rest →
     length entries ≡ 0 → rest ≡ []
 none_waits program [] [] held none = refl
 none_waits program [] (one ∷ rest) held none = absurd held
@@ -176,29 +177,35 @@ module _ (terms : Terms) (past : Past) (clock : ℕ) (e : End) where
   }
 
   -- the mark ends no task
-  in_turn_behind_end : (s : State) (phase : Phase) → ServesInTurn terms.program s phase past.marks →
-      ServesInTurn terms.program s phase (with_mark past (record { at = clock; kind = kind.End e })).marks
+  in_turn_behind_end : (s : State) (phase : Phase) →
+      ServesInTurn terms.program s phase past.marks →
+      ServesInTurn terms.program s phase
+      (with_mark past (record { at = clock; kind = kind.End e })).marks
   in_turn_behind_end s phase h =
       let mark : Mark = record { at = clock; kind = kind.End e } in
       let more = past.marks ++ mark ∷ [] in
       let settled_is =
       walk_push (settled_after terms.program) (none_settled terms.program) past.marks mark in
-      let settled : (settled_of terms.program more).settled ≡ (settled_of terms.program past.marks).settled =
+      let settled : (settled_of terms.program more).settled
+      ≡ (settled_of terms.program past.marks).settled =
       ap (λ (x : Settled). x.settled) settled_is in
-      let rest : (standing_of terms.program more).rest ≡ (standing_of terms.program past.marks).rest =
+      let rest : (standing_of terms.program more).rest
+      ≡ (standing_of terms.program past.marks).rest =
       ap (λ (x : Standing). x.rest) standing_stays in
       let all = ap (λ (x : Standing). x.accepted) standing_stays in
       let low = h.settled in
       record {
         serves =
-            each_push (settled_after terms.program) ServesSettled (none_settled terms.program) past.marks
+            each_push (settled_after terms.program) ServesSettled (none_settled terms.program)
+            past.marks
             mark h.serves (λ ends. absurd ends);
         same =
             ap (λ (x : Settled). x.standing) settled_is
             ∙ ap (λ (x : Standing). after_mark terms.program x mark) h.same ∙ sym standing_stays;
         settled = omega (arith, settled, all, low);
         later = λ busy.
-            subst (λ (n : ℕ). All (λ (held : Held). n < held.number) (standing_of terms.program more).rest)
+            subst (λ (n : ℕ). All (λ (held : Held). n < held.number)
+            (standing_of terms.program more).rest)
             (sym settled)
             (subst (λ (waiting : List Held). All (λ (held : Held).
             (settled_of terms.program past.marks).settled < held.number) waiting) (sym rest)
@@ -295,7 +302,8 @@ closed_board program mode script d e board none end = record {
         board.sound.boots;
   };
   cursors =
-      cursors_stay script.postings d.history.marks _ d.cursors (raised_stays d.history.marks d.clock e)
+      cursors_stay script.postings d.history.marks _ d.cursors
+      (raised_stays d.history.marks d.clock e)
       board.cursors;
   steps = board.steps;
   counted = board.counted;

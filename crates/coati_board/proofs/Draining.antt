@@ -1,9 +1,8 @@
 -- The rows of a held event's commit in mode buffi, and of the abort that it may cause.
-use Rattle.std.proofs.Common.{◌≡◌, ◌≢◌, ℕ, ◌+◌, ◌-◌, ◌<◌, ◌==◌, Bool, true, false, if◌then◌else◌, refl, sym, ap, subst, arith, inl, inr}
-use Rattle.std.proofs.lemmas.Bool.Decides.{nat_tests}
-use Rattle.buffi_sets.specs.Conflict.{HasNoConflict, IsConflict}
+use Rattle.std.proofs.Common.{◌≡◌, ℕ, ◌+◌, ◌==◌, Bool, true, false, refl, sym, subst}
+use Rattle.buffi_sets.specs.Conflict.{IsConflict}
 use Rattle.buffi_sets.specs.Undo.{doom_change}
-use Rattle.nv_memory.specs.Ring.{held_count, position_after}
+use Rattle.nv_memory.specs.Ring.{position_after}
 use Rattle.nv_memory.specs.Seats.{Memory}
 use Rattle.nv_memory.specs.State.{set_to, state}
 use Rattle.nv_memory.specs.Words.{current, head, head_next, mark_seat, opened}
@@ -58,7 +57,8 @@ pub aborts_row : (program : Program) (code : Bodies) (d : Device) (image : Memor
     })
 aborts_row program code d image past unit attempt has word tasks posting given draining is conflict
     after given_is tasks_is posting_is past_is unit_is attempt_is =
-    aborts word image draining (subst (λ (b : Bool). IsConflict (state d.image) b word) is conflict)
+    aborts word image draining
+    (subst (λ (b : Bool). IsConflict (state d.image) b word) is conflict)
     after (rw (past_is, given_is, tasks_is, posting_is, unit_is, attempt_is) refl)
 
 -- the event is committed

@@ -15,11 +15,15 @@ use Rattle.coati_device.specs.Rows.IsRow.{commits_event}
 use Rattle.coati_device.specs.TaskView.{HasWritten}
 
 -- what is told is told of the entry at the head
-pub commits_event_row : (program : Program) (code : Bodies) (d : Device) (image : Memory) (past : Past) (attempt : Kept) (event posting : ℕ) →
+pub commits_event_row : (program : Program) (code : Bodies) (d : Device) (image : Memory)
+    (past : Past) (attempt : Kept) (event posting : ℕ) →
     EndsBottom d → head_next (state d.image) ≡ position_after d.image.k (head (state d.image)) →
     HasWritten d.image (set_to mark_seat 3) image → event ≡ (head_entry (state d.image)).event →
     posting ≡ d.accepted + 1 - held_count (state d.image) →
-    past ≡ with_event d.history event posting d.attempt.items (d.clock + 1) → attempt ≡ emptied d.attempt →
-    IsRow program code d (record d { image = image; history = past; attempt = attempt; phase = Choose })
-commits_event_row program code d image past attempt event posting ends prepared written event_is posting_is past_is attempt_is =
+    past ≡ with_event d.history event posting d.attempt.items (d.clock + 1) →
+    attempt ≡ emptied d.attempt →
+    IsRow program code d (record d
+    { image = image; history = past; attempt = attempt; phase = Choose })
+commits_event_row program code d image past attempt event posting ends prepared written event_is
+    posting_is past_is attempt_is =
     commits_event image ends prepared written (rw (past_is, event_is, posting_is, attempt_is) refl)

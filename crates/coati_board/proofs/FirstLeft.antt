@@ -13,7 +13,8 @@ use Rattle.coati_board.specs.Cursors.{first_place}
 
 -- the least place is the end, or that of a device
 place_from : (cursors : List Cursor) (end : ℕ) →
-    (first_place cursors end ≡ end) ⊎ ((i : ℕ) × (i < length cursors) × ((cursor_of cursors i).at ≡ first_place cursors end))
+    (first_place cursors end ≡ end) ⊎
+    ((i : ℕ) × (i < length cursors) × ((cursor_of cursors i).at ≡ first_place cursors end))
 place_from [] end = inl refl
 place_from (cursor ∷ more) end = elim (place_from more (min end cursor.at)) [
   | inl e ↦ elim (cases_lt cursor.at end) [
@@ -28,44 +29,64 @@ pub record IsLeft (cursors : List Cursor) (posting : Posting) : Type 0 where
   pub device : posting.device < 8
   pub some : 0 < (cursor_of cursors posting.device).left
 
-count_some : (device : ℕ) (posting : Posting) (more : List Posting) → (posting.device == device) ≡ true → 0 < count_of device (posting ∷ more)
+count_some : (device : ℕ) (posting : Posting) (more : List Posting) →
+    (posting.device == device) ≡ true → 0 < count_of device (posting ∷ more)
 count_some device posting more own = rw own (omega arith)
 
-left_at : (postings : List Posting) (marks : List Mark) (cursors : List Cursor) (posting : Posting) (device at : ℕ) → device < 8 →
-    HasRaised postings marks device (cursor_of cursors device) → (cursor_of cursors device).at ≡ at → slice_get postings at ≡ Some posting →
+left_at : (postings : List Posting) (marks : List Mark) (cursors : List Cursor) (posting : Posting)
+    (device at : ℕ) → device < 8 →
+    HasRaised postings marks device (cursor_of cursors device) →
+    (cursor_of cursors device).at ≡ at → slice_get postings at ≡ Some posting →
     IsLeft cursors posting
 left_at postings marks cursors posting device at low has at_is found =
     let within = slice_get_within postings at posting found in
     let rest : drop at postings ≡ posting ∷ drop (suc at) postings =
     drop-cons postings at no_posting within
-    ∙ ap (λ (first : Posting). first ∷ drop (suc at) postings) (get_or_from_slice_get postings at posting no_posting found) in
+    ∙ ap (λ (first : Posting). first ∷ drop (suc at) postings)
+    (get_or_from_slice_get postings at posting no_posting found) in
     let there : others device (posting ∷ drop (suc at) postings) ≡ 0 =
-    ap (others device) (sym rest) ∙ ap (λ (n : ℕ). others device (drop n postings)) (sym at_is) ∙ has.there in
+    ap (others device) (sym rest) ∙ ap (λ (n : ℕ). others device (drop n postings)) (sym at_is)
+    ∙ has.there in
     let own = first_is_own device posting (drop (suc at) postings) there in
     let same : posting.device ≡ device = same_by_test posting.device device own in
-    let count : (cursor_of cursors device).left ≡ count_of device (posting ∷ drop (suc at) postings) =
-    has.left ∙ ap (λ (n : ℕ). count_of device (drop n postings)) at_is ∙ ap (count_of device) rest in
+    let count : (cursor_of cursors device).left ≡ count_of device
+    (posting ∷ drop (suc at) postings) =
+    has.left ∙ ap (λ (n : ℕ). count_of device (drop n postings)) at_is ∙ ap (count_of device)
+    rest in
     let some = count_some device posting (drop (suc at) postings) own in
     record {
       device = omega (arith, same, low);
-      some = subst (λ (n : ℕ). 0 < (cursor_of cursors n).left) (sym same) (omega (arith, count, some));
+      some = subst (λ (n : ℕ). 0 < (cursor_of cursors n).left) (sym same)
+          (omega (arith, count, some));
     }
 
-pub first_is_left : (postings : List Posting) (marks : List Mark) (cursors : List Cursor) (posting : Posting) → AreCursors postings marks cursors →
-    slice_get postings (first_place cursors (length postings)) ≡ Some posting → IsLeft cursors posting
-first_is_left postings marks cursors posting are found = elim (place_from cursors (length postings)) [
-  | inl end ↦ absurd (let within = slice_get_within postings (first_place cursors (length postings)) posting found in omega (arith, within, end))
-  | inr device ↦
-      let eight = are.eight in
-      let low : device.0 < 8 = (let few = device.1 in omega (arith, few, eight)) in
-      left_at postings marks cursors posting device.0 (first_place cursors (length postings)) low (are.each device.0 low) device.2 found
-]
+pub first_is_left : (postings : List Posting) (marks : List Mark) (cursors : List Cursor)
+    (posting : Posting) → AreCursors postings marks cursors →
+    slice_get postings (first_place cursors (length postings)) ≡ Some posting →
+    IsLeft cursors posting
+first_is_left postings marks cursors posting are found =
+    elim (place_from cursors (length postings)) [
+      | inl end ↦ absurd (let within =
+          slice_get_within postings (first_place cursors (length postings)) posting found in
+          omega (arith, within, end))
+      | inr device ↦
+          let eight = are.eight in
+          let low : device.0 < 8 = (let few = device.1 in omega (arith, few, eight)) in
+          left_at postings marks cursors posting device.0 (first_place cursors (length postings)) low
+          (are.each device.0 low) device.2 found
+    ]
 
 -- so is what is answered
-pub some_is_left : (postings : List Posting) (marks : List Mark) (cursors same : List Cursor) (found : Option Posting) → cursors ≡ same →
-    AreCursors postings marks cursors → found ≡ slice_get postings (first_place cursors (length postings)) →
-    IfSome found (λ (posting : Posting). (posting.device < 8) × (0 < (cursor_of same posting.device).left))
+pub some_is_left : (postings : List Posting) (marks : List Mark) (cursors same : List Cursor)
+    (found : Option Posting) → cursors ≡ same →
+    AreCursors postings marks cursors →
+    found ≡ slice_get postings (first_place cursors (length postings)) →
+    IfSome found (λ (posting : Posting). (posting.device < 8)
+    × (0 < (cursor_of same posting.device).left))
 some_is_left postings marks cursors same None same_is are is = tt
 some_is_left postings marks cursors same (Some posting) same_is are is =
-    let left = first_is_left postings marks cursors posting are (sym is) in
-    (left.device, subst (λ (all : List Cursor). 0 < (cursor_of all posting.device).left) same_is left.some)
+    let left = first_is_left postings marks cursors posting are (sym is) in (
+      left.device,
+      subst (λ (all : List Cursor). 0 < (cursor_of all posting.device).left) same_is
+          left.some,
+    )

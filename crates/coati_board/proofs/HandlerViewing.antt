@@ -6,13 +6,12 @@ use Rattle.std.proofs.lemmas.List.{length-map}
 use Rattle.nv_memory.specs.declared.log.Log.{Log}
 use Rattle.nv_memory.specs.declared.log.Log.TheVariants as log
 use Rattle.nv_memory.specs.InRange.{InRange}
-use Rattle.nv_memory.specs.Logs.{HasLog, log_value}
+use Rattle.nv_memory.specs.Logs.{log_value}
 use Rattle.nv_memory.specs.Ring.{Entry, entry_at, held_count, held_entries, held_slots, slot_of}
 use Rattle.nv_memory.specs.Seats.{Memory}
 use Rattle.nv_memory.specs.StandsFor.{committed_word}
 use Rattle.nv_memory.specs.State.{State, put, state}
 use Rattle.nv_memory.specs.Words.{tail}
-use Rattle.nv_memory.proofs.Turns.{slot_low}
 use Rattle.event_buffer.specs.Fill.{is_full, tail_slot}
 use Rattle.event_buffer.specs.Keeps.{KeepsHeld}
 use Rattle.event_buffer.proofs.Filling.{beside_entry}
@@ -35,10 +34,6 @@ pub word_at : (m : Memory) (word : ℕ) → word < length (handler_words m) →
 word_at m word low =
     value_at_index (handler_word (state m)) 0 m.n word (word_below m word low)
     ∙ ap (handler_word (state m)) (omega arith)
-
--- the entry at the tail has a log
-pub has_tail_log : (s : State) → HasLog s.k (tail_log s)
-has_tail_log s = slot_low s.k (tail s)
 
 same_slot_of : (s t : State) → t.k ≡ s.k → tail t ≡ tail s → tail_slot t ≡ tail_slot s
 same_slot_of s t slots same =
@@ -109,7 +104,8 @@ module _ (old new : Memory) (word value part : ℕ) (is_last : Bool)
   word_after other =
       let s = state old in
       let t = state new in
-      ap (λ (slot : ℕ). unwrap_or (entry_value t slot other) (word_behind_entries t other)) same_slot
+      ap (λ (slot : ℕ). unwrap_or (entry_value t slot other) (word_behind_entries t other))
+      same_slot
       ∙ rw (made.log_after other, behind other)
       (seen_step (is_last && (word == other)) (word_behind_entries s other)
       (log_value s (tail_log s) other))

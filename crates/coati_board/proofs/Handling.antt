@@ -1,5 +1,5 @@
 -- A handler on its way: it can make its next step, and there is time for it.
-use Rattle.std.proofs.Common.{◌≡◌, ℕ, ◌+◌, ◌^◌, ◌<◌, ◌≤◌, List, [], ◌∷◌, length, refl, sym, ap, subst, ◌∙◌, arith, Some, None}
+use Rattle.std.proofs.Common.{◌≡◌, ℕ, ◌+◌, ◌^◌, ◌<◌, ◌≤◌, List, [], ◌∷◌, length, refl, sym, ap, subst, ◌∙◌, arith, Some}
 use Rattle.std.specs.Prelude.{option_map, replicate, slice_get}
 use Rattle.std.proofs.lemmas.List.{length-replicate}
 use Rattle.codegen.specs.Bodies.{program_code}
@@ -268,46 +268,46 @@ can_go_on h periods bound d hand enough here step time few =
 
 -- a handler that has begun can go on wherever it comes
 module _ (laws : AreLaws) (computes : TopHalvesComputeTheirCourse) (stand : BodiesStandByNumber)
-    where
-  from_start : (program : Program) (number argument : ℕ) (event : Event) (start : Device)
-      (cpu : Cpu) (can : CanHandle program number start) →
-      slice_get program.events number ≡ Some event →
-      machine.IsAtStart (body.Top number) (argument ∷ []) cpu → (hand : Hand) (d : Device) →
-      Ran (program_code program) number (first_hand program cpu) start hand d →
-      CanGoOn (program_code program) number start hand d
-  from_start program number argument event start cpu can there at hand d ran =
-      let h = handler_at program number argument event start in
-      let bound = bound_of program event in
-      let first = begins_handling laws computes program number argument event start cpu there can
-      at in
-      let most = halves_in_bound program number event there in
-      let spare = can.spare in
-      let enough : bound ≤ start.spare = omega (arith, most, spare) in
-      let begun : Begins h bound = record { there = there; can = can; enough = enough } in
-      let here =
-      is_handling laws h can.accepted there can.periods bound enough (first_hand program cpu) first
-      ran in
-      let of =
-      of_half laws h bound begun (first_hand program cpu) first
-      (at.body_is, length-replicate {A = ℕ} (word_count program.vars) 0) ran in
-      let words = can.fit.memory.words in
-      let sizes = can.fit.memory.range.sizes.few_words in
-      let accepted : d.accepted ≡ start.accepted = ap (λ (x : Device). x.accepted) here.same in
-      let count = can.count in
-      can_go_on h can.periods bound d hand enough here
-      (can_make laws h bound begun stand d hand (omega (arith, words, sizes))
-      (omega (arith, accepted, count)) here of)
-      can.time can.few_periods
+  where
+    from_start : (program : Program) (number argument : ℕ) (event : Event) (start : Device)
+        (cpu : Cpu) (can : CanHandle program number start) →
+        slice_get program.events number ≡ Some event →
+        machine.IsAtStart (body.Top number) (argument ∷ []) cpu → (hand : Hand) (d : Device) →
+        Ran (program_code program) number (first_hand program cpu) start hand d →
+        CanGoOn (program_code program) number start hand d
+    from_start program number argument event start cpu can there at hand d ran =
+        let h = handler_at program number argument event start in
+        let bound = bound_of program event in
+        let first = begins_handling laws computes program number argument event start cpu there can
+        at in
+        let most = halves_in_bound program number event there in
+        let spare = can.spare in
+        let enough : bound ≤ start.spare = omega (arith, most, spare) in
+        let begun : Begins h bound = record { there = there; can = can; enough = enough } in
+        let here =
+        is_handling laws h can.accepted there can.periods bound enough (first_hand program cpu) first
+        ran in
+        let of =
+        of_half laws h bound begun (first_hand program cpu) first
+        (at.body_is, length-replicate {A = ℕ} (word_count program.vars) 0) ran in
+        let words = can.fit.memory.words in
+        let sizes = can.fit.memory.range.sizes.few_words in
+        let accepted : d.accepted ≡ start.accepted = ap (λ (x : Device). x.accepted) here.same in
+        let count = can.count in
+        can_go_on h can.periods bound d hand enough here
+        (can_make laws h bound begun stand d hand (omega (arith, words, sizes))
+        (omega (arith, accepted, count)) here of)
+        can.time can.few_periods
 
-  pub goes_anywhere : (code : Bodies) (number : ℕ) (first : Hand) (start : Device) →
-      IsAtHandler code number first start → (hand : Hand) (d : Device) →
-      Ran code number first start hand d → CanGoOn code number start hand d
-  goes_anywhere code number first start at hand d ran =
-      let there = event_there at.program number at.can.known in
-      subst (λ (one : Bodies). CanGoOn one number start hand d) (sym at.code_is)
-      (from_start at.program number at.argument there.0 start at.cpu at.can there.1 at.start hand d
-      (subst (λ (one : Hand). Ran (program_code at.program) number one start hand d) at.first_is
-      (subst (λ (one : Bodies). Ran one number first start hand d) at.code_is ran)))
+    pub goes_anywhere : (code : Bodies) (number : ℕ) (first : Hand) (start : Device) →
+        IsAtHandler code number first start → (hand : Hand) (d : Device) →
+        Ran code number first start hand d → CanGoOn code number start hand d
+    goes_anywhere code number first start at hand d ran =
+        let there = event_there at.program number at.can.known in
+        subst (λ (one : Bodies). CanGoOn one number start hand d) (sym at.code_is)
+        (from_start at.program number at.argument there.0 start at.cpu at.can there.1 at.start hand d
+        (subst (λ (one : Hand). Ran (program_code at.program) number one start hand d) at.first_is
+        (subst (λ (one : Bodies). Ran one number first start hand d) at.code_is ran)))
 
 -- behind a step there is time for its mark and for its own time
 pub record HasTime (start d mid : Device) : Type 0 where

@@ -1,5 +1,5 @@
--- The oldest held posting: it is the one that the executor picks, its event is one of the program's, and its number is as far
--- behind the last accepted one as postings are held.
+-- The oldest held posting: it is the one that the executor picks, its event is one of the
+-- program's, and its number is as far behind the last accepted one as postings are held.
 use Rattle.std.proofs.Common.{◌≡◌, inl, inr, ℕ, zero, suc, ◌<◌, ◌≤◌, ◌==◌, List, [], ◌∷◌, length, refl, sym, ap, subst, ◌∙◌, arith, Bool, true, false, if◌then◌else◌, Some, None, Option}
 use Rattle.std.specs.Prelude.{option_map, slice_get, flat_map}
 use Rattle.std.proofs.lemmas.Bool.Decides.{nat_tests}
@@ -35,14 +35,17 @@ use Rattle.coati_board.specs.Ready.{ComesToDrain}
 use Rattle.coati_device.proofs.HeadEntry.{event_there, oldest_at_head}
 
 -- as many entries as postings
-same_count : (program : Program) (entries : List Entry) (rest : List Held) → AreHeld program entries rest → length entries ≡ length rest
+same_count : (program : Program) (entries : List Entry) (rest : List Held) →
+    AreHeld program entries rest → length entries ≡ length rest
 same_count program [] [] held = refl
 same_count program [] (one ∷ rest) held = absurd held
 same_count program (entry ∷ entries) [] held = absurd held
-same_count program (entry ∷ entries) (one ∷ rest) held = ap suc (same_count program entries rest held.1)
+same_count program (entry ∷ entries) (one ∷ rest) held =
+    ap suc (same_count program entries rest held.1)
 
 -- no more are held than were accepted
-pub few_held : (program : Program) (d : Device) → Fits program d → (standing_of program d.history.marks).accepted ≡ d.accepted →
+pub few_held : (program : Program) (d : Device) → Fits program d →
+    (standing_of program d.history.marks).accepted ≡ d.accepted →
     held_count (state d.image) ≤ d.accepted
 few_held program d fit numbered =
     let same = same_count program _ _ fit.stands.held in
@@ -50,12 +53,14 @@ few_held program d fit numbered =
     let few = fit.waiting.few in
     omega (arith, same, count, few, numbered)
 
-picked : (s : State) (is_open : Bool) (found : Option Job) (job : Job) → (if is_open then None else found) ≡ Some job →
+picked : (s : State) (is_open : Bool) (found : Option Job) (job : Job) →
+    (if is_open then None else found) ≡ Some job →
     (is_open ≡ false) × (found ≡ Some job)
 picked s true found job e = absurd cc
 picked s false found job e = (refl, e)
 
-first_of : (s : State) (k from count : ℕ) (job : Job) → first_job s (slots_from k from count) ≡ Some job →
+first_of : (s : State) (k from count : ℕ) (job : Job) →
+    first_job s (slots_from k from count) ≡ Some job →
     (0 < count) × (job ≡ job_in s (slot_of k from))
 first_of s k from zero job e = absurd cc
 first_of s k from (suc count) job e = (omega arith, cc)
@@ -66,7 +71,8 @@ pub record IsAtHead (s : State) (job : Job) : Type 0 where
   pub held : 0 < held_count s
   pub job_is : job ≡ job_in s (head_slot s)
 
-at_head : (s : State) (from : ℕ) (job : Job) → from ≡ head s → opened s < 2 → (opened s == 1) ≡ false → 0 < held_count s →
+at_head : (s : State) (from : ℕ) (job : Job) → from ≡ head s → opened s < 2 →
+    (opened s == 1) ≡ false → 0 < held_count s →
     job ≡ job_in s (slot_of s.k from) → IsAtHead s job
 at_head s from job from_is low closed some is = record {
   closed = grind (arith, nat_tests);
@@ -77,14 +83,16 @@ at_head s from job from_is low closed some is = record {
 oldest_is : (s : State) → mark s ≡ 0 → oldest s ≡ head s
 oldest_is s clear = rw clear refl
 
-pub picked_at_head : (s : State) (job : Job) → InRange s → mark s ≡ 0 → next_job s ≡ Some job → IsAtHead s job
+pub picked_at_head : (s : State) (job : Job) → InRange s → mark s ≡ 0 → next_job s ≡ Some job →
+    IsAtHead s job
 picked_at_head s job range clear e =
     let both = picked s (opened s == 1) (first_job s (held_slots s)) job e in
     let first = first_of s s.k (oldest s) (held_count s) job both.1 in
     at_head s (oldest s) job (oldest_is s clear) range.opened both.0 first.0 first.1
 
 -- where it picks none, none is held or a transaction is open
-none_first : (s : State) (k from count : ℕ) → first_job s (slots_from k from count) ≡ None → count ≡ 0
+none_first : (s : State) (k from count : ℕ) → first_job s (slots_from k from count) ≡ None →
+    count ≡ 0
 none_first s k from zero e = refl
 none_first s k from (suc count) e = absurd cc
 
@@ -114,18 +122,21 @@ split_where_held s low undrained some = by (mode s) refl
     by (suc (suc more)) is = absurd (omega (arith, low, is))
 
 -- the event at the head is one of the program's
-pub known_at_head : (program : Program) (d : Device) → Fits program d → mark (state d.image) ≡ 0 → 0 < held_count (state d.image) →
+pub known_at_head : (program : Program) (d : Device) → Fits program d → mark (state d.image) ≡ 0 →
+    0 < held_count (state d.image) →
     (head_entry (state d.image)).event < length program.events
 known_at_head program d fit clear some =
     let oldest_ = oldest_at_head program (state d.image) _ clear some fit.stands.held in
     subst (λ (event : ℕ). event < length program.events) (sym oldest_.is.event) oldest_.is.known
 
 -- it has a bottom half in the code
-pub has_bottom_half : BodiesStandByNumber → (program : Program) (event : ℕ) → event < length program.events →
+pub has_bottom_half : BodiesStandByNumber → (program : Program) (event : ℕ) →
+    event < length program.events →
     HasBody (program_code program) (Bottom event)
 has_bottom_half stand program event low =
     let there = event_there program event low in
-    (stand program (Bottom event) (bottom_half there.0) (ap (option_map bottom_half) there.1)).exists
+    (stand program (Bottom event) (bottom_half there.0)
+    (ap (option_map bottom_half) there.1)).exists
 
 four_names : (params : List Name) → fifth params ≡ [] → length params ≤ 4
 four_names [] none = omega arith
@@ -135,26 +146,33 @@ four_names (a ∷ b ∷ c ∷ []) none = omega arith
 four_names (a ∷ b ∷ c ∷ d ∷ []) none = omega arith
 four_names (a ∷ b ∷ c ∷ d ∷ e ∷ more) none = absurd cc
 
-four_at : (events : List Event) (number : ℕ) (event : Event) → slice_get events number ≡ Some event → flat_map give_shape events ≡ [] →
+four_at : (events : List Event) (number : ℕ) (event : Event) →
+    slice_get events number ≡ Some event → flat_map give_shape events ≡ [] →
     length event.params ≤ 4
 four_at [] number event is none = absurd cc
 four_at (first ∷ more) zero event is none =
     let same : first ≡ event = cc in
     subst (λ (one : Event). length one.params ≤ 4) same
-    (four_names first.params (first-empty (fifth first.params) (misgiven_in (length first.params) first.top)
+    (four_names first.params (first-empty (fifth first.params)
+    (misgiven_in (length first.params) first.top)
     (first-empty (give_shape first) (flat_map give_shape more) none)))
 four_at (first ∷ more) (suc number) event is none =
     four_at more number event is (second-empty (give_shape first) (flat_map give_shape more) none)
 
 -- an event has at most four parameters
-pub few_params : (program : Program) (number : ℕ) (event : Event) → IsAccepted program → slice_get program.events number ≡ Some event →
+pub few_params : (program : Program) (number : ℕ) (event : Event) → IsAccepted program →
+    slice_get program.events number ≡ Some event →
     length event.params ≤ 4
-few_params program number event accepted is = four_at program.events number event is (accepted 12 (omega arith) (omega arith))
+few_params program number event accepted is =
+    four_at program.events number event is (accepted 12 (omega arith) (omega arith))
 
 -- a bottom half that has ended is that of the posting at the head
-pub ended_at_head : (program : Program) (d : Device) → Fits program d → d.phase ≡ EndBottom → ComesToEvents (state d.image)
+pub ended_at_head : (program : Program) (d : Device) → Fits program d → d.phase ≡ EndBottom →
+    ComesToEvents (state d.image)
 ended_at_head program d fit ended =
-    let here : HasEndedBottom program d.image (standing_of program d.history.marks).rest d.attempt.items =
-    subst (λ (phase : Phase). IsAttempt program (program_code program) d.image (standing_of program d.history.marks).rest d.attempt.items phase)
+    let here : HasEndedBottom program d.image (standing_of program d.history.marks).rest
+    d.attempt.items =
+    subst (λ (phase : Phase). IsAttempt program (program_code program) d.image
+    (standing_of program d.history.marks).rest d.attempt.items phase)
     ended fit.attempt in
     here.at.events

@@ -20,37 +20,61 @@ use Rattle.coati_device.specs.Points.{AreHeld}
 use Rattle.coati_device.proofs.HeadEntry.{oldest_at_head}
 use Rattle.coati_board.specs.Ready.{Runs, RunsIn, RunsTheBottomHalf}
 
-due_is : (rest more : List Held) (first held : Held) → rest ≡ first ∷ more → due_posting rest ≡ Some held → first ≡ held
+due_is : (rest more : List Held) (first held : Held) → rest ≡ first ∷ more →
+    due_posting rest ≡ Some held → first ≡ held
 due_is rest more first held is due =
-    let both : due_posting (first ∷ more) ≡ Some held = subst (λ (r : List Held). due_posting r ≡ Some held) is due in cc
+    let both : due_posting (first ∷ more) ≡ Some held =
+    subst (λ (r : List Held). due_posting r ≡ Some held) is due in cc
 
-module _ (program : Program) (d : Device) (cpu : Cpu) (rest : List Held) (running : d.phase ≡ Run cpu)
+module _ (program : Program) (d : Device) (cpu : Cpu) (rest : List Held)
+    (running : d.phase ≡ Run cpu)
     (held : AreHeld program (held_entries (state d.image)) rest) where
-  runs_bottom_half : IsInBottom program (program_code program) d.image rest d.attempt.items cpu → CanRunOver bottom_view program cpu d.image →
+  runs_bottom_half : IsInBottom program (program_code program) d.image rest d.attempt.items cpu →
+      CanRunOver bottom_view program cpu d.image →
       RunsTheBottomHalf (program_code program) d
   runs_bottom_half here can =
-      let head = oldest_at_head program (state d.image) rest here.at.clear.mark here.at.events.held held in
+      let head = oldest_at_head program (state d.image) rest here.at.clear.mark here.at.events.held
+      held in
       let same = due_is rest head.more head.held here.at.held head.first here.at.due in record {
         cpu = cpu;
         phase = running;
-        body = here.body ∙ ap (λ (one : Held). Bottom one.event) (sym same) ∙ ap Bottom (sym head.is.event);
+        body = here.body ∙ ap (λ (one : Held). Bottom one.event) (sym same) ∙ ap Bottom
+            (sym head.is.event);
         events = here.at.events;
         exists = can.body;
         few = can.few;
         ready = can.ready;
       }
 
-  runs_in : (body : BodyId) → IsRunningIn program (program_code program) d.image rest d.attempt.items cpu body → CanRunBody program d.image cpu body →
+  runs_in : (body : BodyId) →
+      IsRunningIn program (program_code program) d.image rest d.attempt.items cpu body →
+      CanRunBody program d.image cpu body →
       RunsIn (program_code program) d body
   runs_in (Task task) here can =
-      record { cpu = cpu; phase = running; body = here.body; exists = can.body; few = can.few; ready = can.ready }
+      record {
+        cpu = cpu;
+        phase = running;
+        body = here.body;
+        exists = can.body;
+        few =
+            can.few;
+        ready = can.ready;
+      }
   runs_in (Top event) here can = absurd here
   runs_in (Bottom event) here can = runs_bottom_half here can
 
-pub runs_of : (program : Program) (d : Device) (cpu : Cpu) → Fits program d → d.phase ≡ Run cpu → CanRunBody program d.image cpu cpu.body →
+pub runs_of : (program : Program) (d : Device) (cpu : Cpu) → Fits program d → d.phase ≡ Run cpu →
+    CanRunBody program d.image cpu cpu.body →
     Runs (program_code program) d
 runs_of program d cpu fit running can =
     let rest = (standing_of program d.history.marks).rest in
-    let here : IsRunningIn program (program_code program) d.image rest d.attempt.items cpu cpu.body =
-    subst (λ (phase : Phase). IsAttempt program (program_code program) d.image rest d.attempt.items phase) running fit.attempt in
-    record { cpu = cpu; phase = running; can = runs_in program d cpu rest running fit.stands.held cpu.body here can }
+    let here : IsRunningIn program (program_code program) d.image rest d.attempt.items cpu
+    cpu.body =
+    subst (λ (phase : Phase). IsAttempt program (program_code program) d.image rest d.attempt.items
+    phase) running fit.attempt in
+    record {
+      cpu = cpu;
+      phase = running;
+      can =
+          runs_in program d cpu rest running fit.stands.held cpu.body here can;
+    }

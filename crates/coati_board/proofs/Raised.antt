@@ -46,7 +46,8 @@ few_filtered p [] = omega arith
 few_filtered p (one ∷ more) = few_behind (p one) one (filter p more) more (few_filtered p more)
 
 -- a device has raised no more postings than there are
-few_raised : (postings : List Posting) (marks : List Mark) (device : ℕ) (c : Cursor) → HasRaised postings marks device c → c.done ≤ length postings
+few_raised : (postings : List Posting) (marks : List Mark) (device : ℕ) (c : Cursor) →
+    HasRaised postings marks device c → c.done ≤ length postings
 few_raised postings marks device c has =
     let sent = map sent_by postings in
     let raised = of_device device (map sent_as (raised_postings marks)) in
@@ -54,27 +55,41 @@ few_raised postings marks device c has =
     let few = few_filtered (λ (one : Sent). one.device == device) sent in
     let count : length (map sent_by postings) ≡ length postings = length-map postings sent_by in
     let done = has.done in
-    omega (arith, parts, few, count, done, length-append raised (of_device device (map sent_by (drop c.at postings))))
+    omega (
+      arith,
+      parts,
+      few,
+      count,
+      done,
+      length-append raised
+          (of_device device (map sent_by (drop c.at postings))),
+    )
 
 -- a device with a posting left can raise it
-module _ (program : Program) (mode : Mode) (script : Script) (old : Device) (board : IsBoard program mode script old) (number : ℕ)
-    (low : number < 8) (left : 0 < (cursor_of old.cursors number).left) (spare : handler_bound program ≤ old.spare)
+module _ (program : Program) (mode : Mode) (script : Script) (old : Device)
+    (board : IsBoard program mode script old) (number : ℕ)
+    (low : number < 8) (left : 0 < (cursor_of old.cursors number).left)
+    (spare : handler_bound program ≤ old.spare)
     (open_ : end_of old.history.marks ≡ None) where
   here : HasRaised script.postings old.history.marks number (cursor_of old.cursors number)
   here = board.cursors.each number low
 
   within : (cursor_of old.cursors number).at < length script.postings
-  within = let count = here.left in left_within script.postings number (cursor_of old.cursors number).at (omega (arith, count, left))
+  within = let count = here.left in
+      left_within script.postings number (cursor_of old.cursors number).at
+      (omega (arith, count, left))
 
   known : (next_posting script.postings old number).event < length program.events
-  known = (All-get_or (IsPosting program) script.postings (cursor_of old.cursors number).at no_posting within board.scripted.postings).event
+  known = (All-get_or (IsPosting program) script.postings (cursor_of old.cursors number).at
+      no_posting within board.scripted.postings).event
 
   pub can_raise : CanRaise program script old number
   can_raise =
       let room = (board.room open_).marks in
       let time = board.time in
       let counted = board.counted in
-      let few = few_raised script.postings old.history.marks number (cursor_of old.cursors number) here in
+      let few = few_raised script.postings old.history.marks number (cursor_of old.cursors number)
+      here in
       let most : 1 ≤ handler_bound program = omega arith in
       record {
         low = low;
@@ -113,8 +128,10 @@ pub record GoesOn (start d : Device) : Type 0 where
   same : d.accepted ≡ start.accepted
 
 module _ (code : Bodies) (event : ℕ) (start : Device) where
-  step_goes : (hand next : Hand) (d mid : Device) → GoesOn start d → IsHandStep code event hand d next mid → Goes start mid
-  step_goes hand next d mid here (tops before after words changed turn is step same to) = rw same here.goes
+  step_goes : (hand next : Hand) (d mid : Device) → GoesOn start d →
+      IsHandStep code event hand d next mid → Goes start mid
+  step_goes hand next d mid here (tops before after words changed turn is step same to) =
+      rw same here.goes
   step_goes hand next d mid here (fills words part image is more wrote same to) =
       let goes = here.goes in
       rw same (record {
@@ -131,7 +148,8 @@ module _ (code : Bodies) (event : ℕ) (start : Device) where
         finished = goes.finished;
         history = goes.history;
       })
-  step_goes hand next d mid here (begins_bottom words part image cpu is last buffi wrote start same to) =
+  step_goes hand next d mid here
+      (begins_bottom words part image cpu is last buffi wrote start same to) =
       let goes = here.goes in
       rw same (record {
         clock = goes.clock;
@@ -150,10 +168,18 @@ module _ (code : Bodies) (event : ℕ) (start : Device) where
   step_goes hand next d mid here (accepts image is wrote same to) =
       let goes = here.goes in
       let count = here.same in
-      rw same (record { clock = goes.clock; accepted = omega (arith, count); finished = goes.finished; history = goes.history })
+      rw same (record {
+        clock = goes.clock;
+        accepted = omega (arith, count);
+        finished =
+            goes.finished;
+        history = goes.history;
+      })
 
-  step_counts_none : (hand next : Hand) (d mid : Device) → IsHandStep code event hand d next mid → next ≢ Over → mid.accepted ≡ d.accepted
-  step_counts_none hand next d mid (tops before after words changed turn is step same to) other = rw same refl
+  step_counts_none : (hand next : Hand) (d mid : Device) → IsHandStep code event hand d next mid →
+      next ≢ Over → mid.accepted ≡ d.accepted
+  step_counts_none hand next d mid (tops before after words changed turn is step same to) other =
+      rw same refl
   step_counts_none hand next d mid (fills words part image is more wrote same to) other =
       rw same refl
   step_counts_none hand next d mid (fills_last words part image is last split wrote same to)
@@ -164,25 +190,44 @@ module _ (code : Bodies) (event : ℕ) (start : Device) where
       rw same refl
   step_counts_none hand next d mid (accepts image is wrote same to) other = absurd (other to)
 
-  ran_goes : (first : Hand) {hand : Hand} {d : Device} → Ran code event first start hand d → GoesOn start d
+  ran_goes : (first : Hand) {hand : Hand} {d : Device} → Ran code event first start hand d →
+      GoesOn start d
   ran_goes first begins =
-      record { goes = record { clock = omega arith; accepted = omega arith; finished = refl; history = refl }; same = refl }
+      record {
+        goes = record {
+          clock = omega arith;
+          accepted = omega arith;
+          finished =
+              refl;
+          history = refl;
+        };
+        same = refl;
+      }
   ran_goes first (goes_on {hand} {next} {d} {mid} ran step other no_cut) =
       let here = ran_goes first ran in
       let goes = step_goes hand next d mid here step in
       let clock = goes.clock in
       record {
-        goes = record { clock = omega (arith, clock); accepted = goes.accepted; finished = goes.finished; history = goes.history };
+        goes = record {
+          clock = omega (arith, clock);
+          accepted = goes.accepted;
+          finished =
+              goes.finished;
+          history = goes.history;
+        };
         same = step_counts_none hand next d mid step other ∙ here.same;
       }
 
-  handler_goes : (first : Hand) (mid : Device) (answer : Answer) → Handles code event first start mid answer → (answer ≢ Full) × Goes start mid
+  handler_goes : (first : Hand) (mid : Device) (answer : Answer) →
+      Handles code event first start mid answer → (answer ≢ Full) × Goes start mid
   handler_goes first mid answer (takes hand d ran step is) =
       ((λ full. let e = sym is ∙ full in cc), step_goes hand Over d mid (ran_goes first ran) step)
   handler_goes first mid answer (loses hand next d ran step other due is) =
       ((λ full. let e = sym is ∙ full in cc), step_goes hand next d mid (ran_goes first ran) step)
 
-end_stays : (marks : List Mark) (mark : Mark) → ((rest : Option End) → end_of_kind mark.kind rest ≡ rest) → end_of (marks ++ mark ∷ []) ≡ end_of marks
+end_stays : (marks : List Mark) (mark : Mark) →
+    ((rest : Option End) → end_of_kind mark.kind rest ≡ rest) →
+    end_of (marks ++ mark ∷ []) ≡ end_of marks
 end_stays [] mark quiet = quiet None
 end_stays (first ∷ more) mark quiet = ap (end_of_kind first.kind) (end_stays more mark quiet)
 
@@ -202,16 +247,26 @@ record Times (d new : Device) : Type 0 where
   finished : new.finished ≡ d.finished
   ends : end_of new.history.marks ≡ end_of d.history.marks
 
-times : (periods : List ℕ) (d : Device) (is_over : Bool) → Times d (if is_over then cut periods d else passed d)
+times : (periods : List ℕ) (d : Device) (is_over : Bool) →
+    Times d (if is_over then cut periods d else passed d)
 times periods d true =
-    record { clock = refl; accepted = refl; finished = refl; ends = end_stays d.history.marks _ (λ rest. refl) }
+    record {
+      clock = refl;
+      accepted = refl;
+      finished = refl;
+      ends =
+          end_stays d.history.marks _ (λ rest. refl);
+    }
 times periods d false = record { clock = refl; accepted = refl; finished = refl; ends = refl }
 
-raised_by_handler : (program : Program) (periods : List ℕ) (postings : List Posting) (number : ℕ) (old mid new : Device) (answer : Answer) →
+raised_by_handler : (program : Program) (periods : List ℕ) (postings : List Posting) (number : ℕ)
+    (old mid new : Device) (answer : Answer) →
     is_full (state old.image) ≡ false → answer ≢ Full → Goes old mid →
-    new ≡ ticked periods (answered postings number (next_posting postings old number) old.clock (mid.clock + 1) answer mid) → Raise old new answer
+    new ≡ ticked periods (answered postings number (next_posting postings old number) old.clock
+    (mid.clock + 1) answer mid) → Raise old new answer
 raised_by_handler program periods postings number old mid new answer room other goes is =
-    let told = answered postings number (next_posting postings old number) old.clock (mid.clock + 1) answer mid in
+    let told = answered postings number (next_posting postings old number) old.clock
+    (mid.clock + 1) answer mid in
     let time = times periods told (mid.until == 1) in
     let clock_ = time.clock in
     let accepted_ = time.accepted in
@@ -224,10 +279,12 @@ raised_by_handler program periods postings number old mid new answer room other 
       accepted = omega (arith, clock_, accepted_, later, few);
       finished = time.finished ∙ goes.finished;
       ends =
-          time.ends ∙ end_stays mid.history.marks _ (λ rest. refl) ∙ ap (λ (past : Past). end_of past.marks) goes.history;
+          time.ends ∙ end_stays mid.history.marks _ (λ rest. refl) ∙ ap
+          (λ (past : Past). end_of past.marks) goes.history;
     })
 
-pub raised_leaves : (program : Program) (code : Bodies) (periods : List ℕ) (postings : List Posting) (number : ℕ) (old new : Device) (answer : Answer) →
+pub raised_leaves : (program : Program) (code : Bodies) (periods : List ℕ)
+    (postings : List Posting) (number : ℕ) (old new : Device) (answer : Answer) →
     Raises program code periods postings number old new answer → Raise old new answer
 raised_leaves program code periods postings number old new answer (fulls full answers is) =
     rw is (record {
@@ -243,28 +300,36 @@ raised_leaves program code periods postings number old new answer (fulls full an
       finished = refl;
       ends = end_stays old.history.marks _ (λ rest. refl);
     })
-raised_leaves program code periods postings number old new answer (handles cpu mid room start came is) =
+raised_leaves program code periods postings number old new answer
+    (handles cpu mid room start came is) =
     let goes = handler_goes code (next_posting postings old number).event old _ mid answer came in
     raised_by_handler program periods postings number old mid new answer room goes.0 goes.1 is
 
 -- what a board has then
-pub record RaisesOn (program : Program) (mode : Mode) (script : Script) (old new : Device) (answer : Answer) : Type 0 where
+pub record RaisesOn (program : Program) (mode : Mode) (script : Script) (old new : Device)
+    (answer : Answer) : Type 0 where
   pub board : IsBoard program mode script new
   pub leaves : Raise old new answer
   pub steps : new.steps ≡ old.steps
   pub spare : old.spare ≤ new.spare + handler_bound program
   pub grows : AreRecordsGrown old new
 
-pub raise_keeps : (program : Program) (mode : Mode) (script : Script) (number : ℕ) (old new : Device) (answer : Answer) →
-    IsBoard program mode script old → number < 8 → 0 < (cursor_of old.cursors number).left → handler_bound program ≤ old.spare →
+pub raise_keeps : (program : Program) (mode : Mode) (script : Script) (number : ℕ)
+    (old new : Device) (answer : Answer) →
+    IsBoard program mode script old → number < 8 → 0 < (cursor_of old.cursors number).left →
+    handler_bound program ≤ old.spare →
     end_of old.history.marks ≡ None → RaisesKeepSound →
-    Raises program (program_code program) script.power script.postings number old new answer → RaisesOn program mode script old new answer
+    Raises program (program_code program) script.power script.postings number old new answer →
+    RaisesOn program mode script old new answer
 raise_keeps program mode script number old new answer board low left spare open_ law raised =
     let same : handler_bound program ≤ handler_bound program = omega arith in
     let has =
-    law (terms_of program mode) script.power script.postings number old new answer board.scripted.periods board.accepted same low left
-    (known program mode script old board number low left spare open_) spare board.sound board.cursors (board.room open_) raised in
-    let leaves = raised_leaves program (program_code program) script.power script.postings number old new answer raised in
+    law (terms_of program mode) script.power script.postings number old new answer
+    board.scripted.periods board.accepted same low left
+    (known program mode script old board number low left spare open_) spare board.sound
+    board.cursors (board.room open_) raised in
+    let leaves = raised_leaves program (program_code program) script.power script.postings number
+    old new answer raised in
     let clock = leaves.clock in
     let counted = leaves.accepted in
     let finished = leaves.finished in

@@ -96,7 +96,8 @@ roomier_parts : (program : Program) (mode : Mode) (script : Script) (d : Device)
       waiting = waiting;
       spare = spare;
     })
-roomier_parts program mode script d past attempt unit waiting spare marks readings items kept events
+roomier_parts program mode script d past attempt unit waiting spare marks readings items kept
+    events
     board time few room = record {
       accepted = board.accepted;
       sizes = board.sizes;
@@ -104,7 +105,8 @@ roomier_parts program mode script d past attempt unit waiting spare marks readin
       sound =
           sound_with_room (terms_of program mode) script.power d past attempt unit waiting spare
           marks readings items kept events board.sound;
-      cursors = subst (λ (ms : List Mark). AreCursors script.postings ms d.cursors) (sym marks) board.cursors;
+      cursors = subst (λ (ms : List Mark). AreCursors script.postings ms d.cursors) (sym marks)
+          board.cursors;
       steps = board.steps;
       counted = board.counted;
       finished = board.finished;

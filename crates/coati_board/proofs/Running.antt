@@ -25,10 +25,12 @@ view_meaning = record {
   words = λ v. task_view.words v.image.now;
   begun = λ v word value part. task_view.begun v.image.now word value part;
   loaded =
-      λ old word new. (new.image.ghost_name ≡ old.image.ghost_name) × task_view.loaded old.image.now
+      λ old word new. (new.image.ghost_name ≡ old.image.ghost_name) × task_view.loaded
+      old.image.now
       word new.image.now;
   stored = λ old word value part new is_last.
-      (new.image.ghost_name ≡ old.image.ghost_name) × task_view.stored old.image.now word value part
+      (new.image.ghost_name ≡ old.image.ghost_name) × task_view.stored old.image.now word value
+      part
       new.image.now is_last;
 }
 
@@ -59,6 +61,7 @@ runs_row program code d before after old new turn seen phase attempt step image_
     ∙ can.body) clear
     (subst (λ (m : Memory). IsStep task_view code before after m new.image.now seen) image_is
     (subst (λ (t : Turn). IsStep task_view code before after old.image.now new.image.now t) turn_is
-    (shown_step view_meaning task_view (λ (view : TaskView). view.image.now) view_shows before after
+    (shown_step view_meaning task_view (λ (view : TaskView). view.image.now) view_shows before
+    after
     old new code turn step)))
     (rw (phase_after_is, attempt_is) refl)

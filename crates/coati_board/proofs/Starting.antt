@@ -18,7 +18,8 @@ use Rattle.coati_board.specs.Cursors.{first_cursors}
 use Rattle.coati_board.specs.Served.{IsScript}
 
 -- each device has raised none of its postings
-raised_none : (postings : List Posting) (device : ℕ) → HasRaised postings [] device (first_cursor postings device)
+raised_none : (postings : List Posting) (device : ℕ) →
+    HasRaised postings [] device (first_cursor postings device)
 raised_none postings device = record {
   parts = sym (skips_none device postings);
   within = skipped_few device postings;
@@ -43,7 +44,8 @@ are_first : (postings : List Posting) → AreCursors postings [] (first_cursors 
 are_first postings = record {
   eight = refl;
   each = λ device low.
-      subst (HasRaised postings [] device) (sym (first_at postings device low)) (raised_none postings device);
+      subst (HasRaised postings [] device) (sym (first_at postings device low))
+      (raised_none postings device);
 }
 
 -- it is sound
@@ -69,7 +71,8 @@ opened_board program mode script d accepted sizes scripted fresh cursors no_spar
       sound = law (terms_of program mode) script.power d scripted.periods sizes fresh;
       cursors =
           subst (AreCursors script.postings d.history.marks) (sym cursors)
-          (subst (λ (marks : List Mark). AreCursors script.postings marks (first_cursors script.postings))
+          (subst (λ (marks : List Mark). AreCursors script.postings marks
+          (first_cursors script.postings))
           (sym fresh.marks) (are_first script.postings));
       steps = omega arith;
       counted = omega arith;

@@ -30,7 +30,8 @@ record TellsNothing (more marks : List Mark) : Type 0 where
   ends : end_of more ≡ end_of marks
   raised : raised_postings more ≡ raised_postings marks
 
-tells_behind : (first : Mark) (more marks : List Mark) → TellsNothing more marks → TellsNothing (first ∷ more) (first ∷ marks)
+tells_behind : (first : Mark) (more marks : List Mark) → TellsNothing more marks →
+    TellsNothing (first ∷ more) (first ∷ marks)
 tells_behind first more marks told = record {
   ends = ap (end_of_kind first.kind) told.ends;
   raised = ap (λ (all : List Raised). raised_by first.kind ++ all) told.raised;
@@ -39,9 +40,11 @@ tells_behind first more marks told = record {
 commit_tells : (marks : List Mark) (at : ℕ) (committed : Record) →
     TellsNothing (marks ++ record { at = at; kind = Commit committed } ∷ []) marks
 commit_tells [] at committed = record { ends = refl; raised = refl }
-commit_tells (mark ∷ marks) at committed = tells_behind mark _ marks (commit_tells marks at committed)
+commit_tells (mark ∷ marks) at committed =
+    tells_behind mark _ marks (commit_tells marks at committed)
 
-done_tells : (marks : List Mark) (at task : ℕ) → TellsNothing (marks ++ record { at = at; kind = Done task } ∷ []) marks
+done_tells : (marks : List Mark) (at task : ℕ) →
+    TellsNothing (marks ++ record { at = at; kind = Done task } ∷ []) marks
 done_tells [] at task = record { ends = refl; raised = refl }
 done_tells (mark ∷ marks) at task = tells_behind mark _ marks (done_tells marks at task)
 
@@ -50,7 +53,8 @@ abort_tells : (marks : List Mark) (at : ℕ) (aborted : AbortOf) →
 abort_tells [] at aborted = record { ends = refl; raised = refl }
 abort_tells (mark ∷ marks) at aborted = tells_behind mark _ marks (abort_tells marks at aborted)
 
-boot_tells : (marks : List Mark) (at number : ℕ) → TellsNothing (marks ++ record { at = at; kind = Boot number } ∷ []) marks
+boot_tells : (marks : List Mark) (at number : ℕ) →
+    TellsNothing (marks ++ record { at = at; kind = Boot number } ∷ []) marks
 boot_tells [] at number = record { ends = refl; raised = refl }
 boot_tells (mark ∷ marks) at number = tells_behind mark _ marks (boot_tells marks at number)
 
@@ -68,32 +72,65 @@ module _ (old : Device) where
   without_mark : (image : Memory) (phase : Phase) (attempt : Kept) →
       LeavesBeside old (record old { image = image; phase = phase; attempt = attempt })
   without_mark image phase attempt =
-      record { told = tells_none old.history.marks; cursors = refl; accepted = refl; finished = omega arith }
+      record {
+        told = tells_none old.history.marks;
+        cursors = refl;
+        accepted = refl;
+        finished =
+            omega arith;
+      }
 
-  row_leaves : (program : Program) (code : Bodies) (new : Device) → IsRow program code old new → LeavesBeside old new
-  row_leaves program code new (applies change image next written is) = rw is (without_mark image old.phase old.attempt)
-  row_leaves program code new (undoes change image clear next written is) = rw is (without_mark image old.phase old.attempt)
-  row_leaves program code new (sleeps chooses halted is) = rw is (without_mark old.image old.phase old.attempt)
-  row_leaves program code new (empties image chooses some long written is) = rw is (without_mark image old.phase old.attempt)
+  row_leaves : (program : Program) (code : Bodies) (new : Device) → IsRow program code old new →
+      LeavesBeside old new
+  row_leaves program code new (applies change image next written is) =
+      rw is (without_mark image old.phase old.attempt)
+  row_leaves program code new (undoes change image clear next written is) =
+      rw is (without_mark image old.phase old.attempt)
+  row_leaves program code new (sleeps chooses halted is) =
+      rw is (without_mark old.image old.phase old.attempt)
+  row_leaves program code new (empties image chooses some long written is) =
+      rw is (without_mark image old.phase old.attempt)
   row_leaves program code new (unflags change image chooses some empty buffi next written is) =
       rw is (without_mark image old.phase old.attempt)
   row_leaves program code new (starts cpu chooses some empty unflagged start is) =
       rw is (without_mark old.image (Run cpu) (emptied old.attempt))
   row_leaves program code new (runs before after image turn phase body clear step is) =
       rw is (without_mark image (phase_after after turn) (after_turn old.attempt turn))
-  row_leaves program code new (prepares place image ends other written is) = rw is (without_mark image old.phase old.attempt)
+  row_leaves program code new (prepares place image ends other written is) =
+      rw is (without_mark image old.phase old.attempt)
   row_leaves program code new (joins place image ends ready inside written is) =
-      rw is (record { told = done_tells old.history.marks _ _; cursors = refl; accepted = refl; finished = omega arith })
+      rw is (record {
+        told = done_tells old.history.marks _ _;
+        cursors = refl;
+        accepted =
+            refl;
+        finished = omega arith;
+      })
   row_leaves program code new (commits place image ends ready whole written is) =
-      rw is (record { told = commit_tells old.history.marks _ _; cursors = refl; accepted = refl; finished = omega arith })
-  row_leaves program code new (empties_entry image chooses some written is) = rw is (without_mark image old.phase old.attempt)
+      rw is (record {
+        told = commit_tells old.history.marks _ _;
+        cursors = refl;
+        accepted =
+            refl;
+        finished = omega arith;
+      })
+  row_leaves program code new (empties_entry image chooses some written is) =
+      rw is (without_mark image old.phase old.attempt)
   row_leaves program code new (starts_bottom cpu chooses empty start is) =
       rw is (without_mark old.image (Run cpu) (emptied old.attempt))
-  row_leaves program code new (runs_bottom before after image turn phase body clear events step is) =
+  row_leaves program code new
+      (runs_bottom before after image turn phase body clear events step is) =
       rw is (without_mark image (phase_of_bottom after turn) (after_turn old.attempt turn))
-  row_leaves program code new (prepares_event image ends other written is) = rw is (without_mark image old.phase old.attempt)
+  row_leaves program code new (prepares_event image ends other written is) =
+      rw is (without_mark image old.phase old.attempt)
   row_leaves program code new (commits_event image ends ready written is) =
-      rw is (record { told = commit_tells old.history.marks _ _; cursors = refl; accepted = refl; finished = omega arith })
+      rw is (record {
+        told = commit_tells old.history.marks _ _;
+        cursors = refl;
+        accepted =
+            refl;
+        finished = omega arith;
+      })
   row_leaves program code new (aborts word image draining conflict after is) =
       rw is (record {
         told = abort_tells old.history.marks _ _;
@@ -111,11 +148,24 @@ module _ (old : Device) where
         finished = omega arith;
       })
 
-time_leaves : (periods : List ℕ) (d : Device) (is_over : Bool) → LeavesBeside d (if is_over then cut periods d else passed d)
+time_leaves : (periods : List ℕ) (d : Device) (is_over : Bool) →
+    LeavesBeside d (if is_over then cut periods d else passed d)
 time_leaves periods d true =
-    record { told = boot_tells d.history.marks _ _; cursors = refl; accepted = refl; finished = omega arith }
+    record {
+      told = boot_tells d.history.marks _ _;
+      cursors = refl;
+      accepted = refl;
+      finished =
+          omega arith;
+    }
 time_leaves periods d false =
-    record { told = tells_none d.history.marks; cursors = refl; accepted = refl; finished = omega arith }
+    record {
+      told = tells_none d.history.marks;
+      cursors = refl;
+      accepted = refl;
+      finished =
+          omega arith;
+    }
 
 time_finishes_none : (periods : List ℕ) (d : Device) (is_over : Bool) →
     (if is_over then cut periods d else passed d).finished ≡ d.finished
@@ -132,7 +182,11 @@ step_leaves program code periods old new step =
     time_finishes_none periods counted (step.acted.until == 1) in
     let most = row.finished in
     rw step.time (record {
-      told = record { ends = time.told.ends ∙ row.told.ends; raised = time.told.raised ∙ row.told.raised };
+      told = record {
+        ends = time.told.ends ∙ row.told.ends;
+        raised =
+            time.told.raised ∙ row.told.raised;
+      };
       cursors = time.cursors ∙ row.cursors;
       accepted = time.accepted ∙ row.accepted;
       finished = omega (arith, finished, most);

@@ -21,7 +21,8 @@ pub values_length : (f : ℕ → ℕ) (at n : ℕ) → length (values_from f at 
 values_length f at zero = refl
 values_length f at (suc n) = ap suc (values_length f (suc at) n)
 
-pub value_at_index : (f : ℕ → ℕ) (at n i : ℕ) → i < n → get_or (values_from f at n) i 0 ≡ f (at + i)
+pub value_at_index : (f : ℕ → ℕ) (at n i : ℕ) → i < n →
+    get_or (values_from f at n) i 0 ≡ f (at + i)
 value_at_index f at zero i low = absurd (omega arith)
 value_at_index f at (suc n) zero low = ap f (omega arith)
 value_at_index f at (suc n) (suc i) low =

@@ -119,7 +119,9 @@ fn commit_event(device: &mut Device)
     requires few { held_count (state device.old.image) ≤ device.old.accepted }
     ensures { (program : Program) (code : Bodies) → IsRow program code device.old device.new }
 {
-    let event = device.image.event(device.image.layout().slot(device.image.head()));
+    let event = device
+        .image
+        .event(device.image.layout().slot(device.image.head()));
     let posting = oldest_posting(device);
     put(&mut device.image, mark_write(Marker::Event));
     commit_posting(

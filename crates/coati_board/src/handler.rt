@@ -21,16 +21,16 @@ ghost use Rattle.coati_board.specs.Handlers.{CanAccept, CanFill, CanHandStep, Ca
 use crate::handler_view::HandlerView;
 use crate::tick::pass;
 use crate::writes::put;
+use buffi_sets::laws::handlers_read_behind_held_events;
 use coati_device::{Device, Hand, Scratch};
 use coati_word::{Ending, Message};
-use buffi_sets::laws::handlers_read_behind_held_events;
 use codegen::laws::{accepted_programs_compute_their_courses, bodies_stand_by_number};
 use event_buffer::laws::{accepts_add_the_newest, parts_fill_the_slot, the_tail_entry_is_free};
 use event_buffer::{accept_write, fill_write};
 use serial_log::Answer;
+use task_buffer::laws::stores_set_the_value;
 use task_check::Checked;
 use task_syntax::BodyId;
-use task_buffer::laws::stores_set_the_value;
 use task_syntax::laws::{accesses_join_up, courses_under_way_go_on, last_writes_tell_the_store};
 use word_code::Code;
 use word_code::laws::{following_goes_on, instructions_are_their_words};
@@ -145,11 +145,7 @@ fn fill(code: &Code, device: &mut Device, event: u16, message: Message, part: u1
         return Hand::Accept;
     }
     device.waiting.begin();
-    Hand::Bottom(Cpu::start(
-        code,
-        BodyId::Bottom(event),
-        message.as_slice(),
-    ))
+    Hand::Bottom(Cpu::start(code, BodyId::Bottom(event), message.as_slice()))
 }
 
 // A step of the machine in the bottom half.

@@ -106,7 +106,8 @@ pub record HasRaisedOne (old new : Whole) (posting : Posting) (answer : Answer) 
   pub steps : new.device.steps ≡ old.device.steps
   pub spare : old.device.spare ≤ new.device.spare + handler_bound old.program
 
-pub going_raised : (start old new : Whole) (posting : Posting) (answer : Answer) → IsGoing start old
+pub going_raised : (start old new : Whole) (posting : Posting) (answer : Answer) →
+    IsGoing start old
     → HasRaisedOne old new posting answer → IsGoing start new
 going_raised start old new posting answer going told =
     let postings : List Posting = old.script.postings in
@@ -250,7 +251,8 @@ pub none_at_end : (start last : Whole) (end : End) → IsGoing start last → Is
 none_at_end start last end going over =
     let postings : List Posting = last.script.postings in
     let marks = (closed last end).device.history.marks in
-    let none = none_left postings going.devices going.raised last.device going.has over.none_left in
+    let none = none_left postings going.devices going.raised last.device going.has
+    over.none_left in
     subst (λ (s : Script). (turns_of s.postings marks).left ≡ []) going.same.script
     (left_at_end last end ∙ none)
 

@@ -15,11 +15,11 @@ use Rattle.coati_device.specs.declared.hand.Hand.{Hand}
 use Rattle.coati_device.specs.Cursors.{answered, cursor_of, moved, next_posting}
 use Rattle.coati_device.specs.Raises.{Handles, IsHandStep, Raises, Ran}
 use Rattle.coati_device.specs.Raises.Handles.{takes, loses}
-use Rattle.coati_device.specs.Raises.IsHandStep.{tops, fills, accepts}
+use Rattle.coati_device.specs.Raises.IsHandStep.{tops, fills, fills_last, begins_bottom, bottoms, accepts}
 use Rattle.coati_device.specs.Raises.Raises.{fulls, handles}
 use Rattle.coati_device.specs.Raises.Ran.{begins, goes_on}
 use Rattle.coati_device.specs.Rows.{IsRow, IsStepOf}
-use Rattle.coati_device.specs.Rows.IsRow.{applies, undoes, sleeps, empties, starts, runs, prepares, joins, commits, empties_entry, starts_bottom, runs_bottom, prepares_event, commits_event}
+use Rattle.coati_device.specs.Rows.IsRow.{applies, undoes, sleeps, empties, unflags, starts, runs, prepares, joins, commits, empties_entry, starts_bottom, runs_bottom, prepares_event, commits_event, aborts, prepares_drain, drains}
 use Rattle.coati_device.specs.Ticks.{cut, passed, ticked}
 use Rattle.executor.proofs.Quiet.{IsQuiet, no_mark, one_mark, posted_at}
 
@@ -46,7 +46,10 @@ row_raises_none program code old new (sleeps chooses halts is) =
     subst (RaisesNone old) (sym is) (no_marks old _ refl refl)
 row_raises_none program code old new (empties image chooses awake some written is) =
     subst (RaisesNone old) (sym is) (no_marks old _ refl refl)
-row_raises_none program code old new (starts cpu chooses awake none at is) =
+row_raises_none program code old new
+    (unflags change image chooses awake none buffi next written is) =
+    subst (RaisesNone old) (sym is) (no_marks old _ refl refl)
+row_raises_none program code old new (starts cpu chooses awake none unflagged at is) =
     subst (RaisesNone old) (sym is) (no_marks old _ refl refl)
 row_raises_none program code old new (runs before after image turn phase body clear step is) =
     subst (RaisesNone old) (sym is) (no_marks old _ refl refl)
@@ -68,6 +71,14 @@ row_raises_none program code old new
 row_raises_none program code old new (prepares_event image ends other written is) =
     subst (RaisesNone old) (sym is) (no_marks old _ refl refl)
 row_raises_none program code old new (commits_event image ends same written is) =
+    subst (RaisesNone old) (sym is)
+    (record { quiet = one_mark old.history.marks _ (λ t. refl) (λ t. tt); cursors = refl })
+row_raises_none program code old new (aborts word image draining conflict after is) =
+    subst (RaisesNone old) (sym is)
+    (record { quiet = one_mark old.history.marks _ (λ t. refl) (λ t. tt); cursors = refl })
+row_raises_none program code old new (prepares_drain image free other written is) =
+    subst (RaisesNone old) (sym is) (no_marks old _ refl refl)
+row_raises_none program code old new (drains image free same written is) =
     subst (RaisesNone old) (sym is)
     (record { quiet = one_mark old.history.marks _ (λ t. refl) (λ t. tt); cursors = refl })
 
@@ -128,7 +139,20 @@ hand_tells_nothing code event hand next old new
     (tops before after words changed turn at step is goes) =
     subst (TellsNothing old) (sym is)
     (record { history = refl; cursors = refl; later = omega arith })
-hand_tells_nothing code event hand next old new (fills message part image at written is goes) =
+hand_tells_nothing code event hand next old new
+    (fills message part image at more written is goes) =
+    subst (TellsNothing old) (sym is)
+    (record { history = refl; cursors = refl; later = omega arith })
+hand_tells_nothing code event hand next old new
+    (fills_last message part image at last split written is goes) =
+    subst (TellsNothing old) (sym is)
+    (record { history = refl; cursors = refl; later = omega arith })
+hand_tells_nothing code event hand next old new
+    (begins_bottom message part image cpu at last buffi written start is goes) =
+    subst (TellsNothing old) (sym is)
+    (record { history = refl; cursors = refl; later = omega arith })
+hand_tells_nothing code event hand next old new
+    (bottoms before after image turn at step is goes) =
     subst (TellsNothing old) (sym is)
     (record { history = refl; cursors = refl; later = omega arith })
 hand_tells_nothing code event hand next old new (accepts image at written is goes) =

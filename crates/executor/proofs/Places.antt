@@ -121,7 +121,8 @@ module _ (postings : List Posting) (raised : ℕ) (cursors : List Cursor)
         let at = are.each device device_low in
         let skipped = one_more_skipped postings raised device within (λ e. apart (sym e)) in
         let still : (cursor_of cursors device).at ≡ place_of device = omega (arith, at, skipped) in
-        ap (λ (c : Cursor). c.at) (get_or-set_other cursors own device next no_cursor apart) ∙ still
+        ap (λ (c : Cursor). c.at) (get_or-set_other cursors own device next no_cursor apart)
+        ∙ still
   ]
 
   pub behind_one_more : AreBehind postings (raised + 1) changed

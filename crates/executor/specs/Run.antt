@@ -10,7 +10,7 @@ use Rattle.serial_log.specs.declared.script.Posting.{Posting}
 use Rattle.serial_log.specs.History.{with_mark}
 use Rattle.task_cost.specs.Limits.{handler_bound}
 use Rattle.executor.specs.InTurn.{IsFirstToCome, turns_of}
-use Rattle.coati_board.specs.Board.{IsBoardStep, IsOpened, IsOver, IsRaise, Whole, first_left, left_of}
+use Rattle.coati_board.specs.Board.{IsBoardStep, IsOpen, IsOpened, IsOver, IsRaise, Whole, first_left, left_of}
 
 -- the first posting that is left has come to its time
 pub record IsDue (board : Whole) (posting : Posting) : Type 0 where
@@ -46,11 +46,12 @@ closed board end =
     let mark : Mark = record { at = board.device.clock; kind = kind.End end } in
     record board { device = record board.device { history = with_mark board.device.history mark } }
 
--- it ran to its end
+-- it ran to its end; no End mark stands before its own
 pub record HasRun (start : Whole) (end : End) (board : Whole) : Type 0 where
   pub last : Whole
   pub goes : Goes start last
   pub come : HasCome last
+  pub still_open : IsOpen last
   pub idle : (end ≡ Idle) ↔ IsOver last
   pub closed : board ≡ closed last end
 

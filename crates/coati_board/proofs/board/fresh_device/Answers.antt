@@ -16,7 +16,8 @@ returns-clause-fresh c =
         clock = refl;
         steps = refl;
         boots = refl;
-        until = c.period.ensures ∙ ap (λ (all : List ℕ). slice_index all 0) c.as_slice-periods.ensures;
+        until = c.period.ensures ∙ ap (λ (all : List ℕ). slice_index all 0)
+            c.as_slice-periods.ensures;
         marks = c.reserve.ensures.marks ∙ c.new-history.ensures.marks;
         readings = c.reserve.ensures.readings ∙ c.new-history.ensures.readings;
         attempt = c.new.ensures;

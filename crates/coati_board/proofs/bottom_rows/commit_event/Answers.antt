@@ -17,7 +17,8 @@ counted c = c.held.ensures ∙ held_length (state c.args.device.now.image)
 
 head_slot_is : (c : After-held) → c.slot-slot.result ≡ head_slot (state c.args.device.now.image)
 head_slot_is c =
-    c.slot-slot.ensures.slot ∙ ap (λ (layout : Layout). slot_of layout.k c.head.result) c.layout.ensures.layout
+    c.slot-slot.ensures.slot ∙ ap (λ (layout : Layout). slot_of layout.k c.head.result)
+    c.layout.ensures.layout
     ∙ ap (slot_of c.args.device.now.image.k) c.head.ensures
 
 pub overflow_sub-posting : goal.overflow_sub-posting
@@ -26,17 +27,26 @@ overflow_sub-posting c =
     let count = counted (goal.at.overflow_sub-posting c).After-held in omega (arith, few, count)
 
 pub put-requires : goal.put-requires
-put-requires c = (set_to mark_seat 3, record { seat = refl; is = c.mark_write.ensures c.args.device.now.image.n })
+put-requires c = (
+  set_to mark_seat 3,
+  record
+      { seat = refl; is = c.mark_write.ensures c.args.device.now.image.n },
+)
 
 pub returns : goal.returns
 returns c program code =
     let d = c.args.device.now in
-    let marks : Writes d.image (set_to mark_seat 3) c.mark_write.result = record { seat = refl; is = c.mark_write.ensures d.image.n } in
+    let marks : Writes d.image (set_to mark_seat 3) c.mark_write.result =
+    record { seat = refl; is = c.mark_write.ensures d.image.n } in
     let few = c.requires.few in
     let some = c.requires.ends.events.held in
     let count = counted (goal.at.returns c).After-held in
-    commits_event_row program code d c.put.new.image c.commit_posting.new.history c.clear.new.self c.event-event.result (d.accepted - c.held.result + 1) c.requires.ends c.requires.prepared
+    commits_event_row program code d c.put.new.image c.commit_posting.new.history c.clear.new.self
+    c.event-event.result (d.accepted - c.held.result + 1) c.requires.ends c.requires.prepared
     (c.put.ensures (set_to mark_seat 3) marks).written
-    (c.event-event.ensures ∙ ap (λ (slot : ℕ). (entry_at (state d.image) slot).event) (head_slot_is (goal.at.returns c).After-held)) (omega (arith, few, some, count))
-    (subst (λ (reads : List Reading). c.commit_posting.new.history ≡ with_event d.history c.event-event.result (d.accepted - c.held.result + 1) reads (d.clock + 1)) c.as_slice.ensures c.commit_posting.ensures)
+    (c.event-event.ensures ∙ ap (λ (slot : ℕ). (entry_at (state d.image) slot).event)
+    (head_slot_is (goal.at.returns c).After-held)) (omega (arith, few, some, count))
+    (subst (λ (reads : List Reading). c.commit_posting.new.history ≡ with_event d.history
+    c.event-event.result (d.accepted - c.held.result + 1) reads (d.clock + 1))
+    c.as_slice.ensures c.commit_posting.ensures)
     c.clear.ensures

@@ -11,6 +11,8 @@ pub returns-in-Some : goal.returns-in-Some
 returns-in-Some c program code =
     let image = c.args.device.now.image in
     let next = c.in-Some.ensures.next in
-    let open_ = undone (state image) head_next_seat (position_after image.k (head (state image))) next.change next.next in
+    let open_ = undone (state image) head_next_seat (position_after image.k (head (state image)))
+    next.change next.next in
     prepares_event c.put.new.image c.requires.ends open_.other
-    (subst (λ (change : Change). HasWritten image change c.put.new.image) open_.change_is (c.put.ensures next.change next.writes).written) refl
+    (subst (λ (change : Change). HasWritten image change c.put.new.image) open_.change_is
+    (c.put.ensures next.change next.writes).written) refl

@@ -7,4 +7,5 @@ use Rattle.coati_board.proofs.bottom_rows.message.Goals as goal
 pub shared_ref_as_front-result : goal.shared_ref_as_front-result
 shared_ref_as_front-result c =
     subst (λ (params : List Name). length params ≤ 4) (sym c.as_slice-count.ensures)
-    (few_params c.args.checked.now c.args.job.now.event c.event.result.now c.program-program.ensures.accepted c.event.ensures)
+    (few_params c.args.checked.now c.args.job.now.event c.event.result.now
+    c.program-program.ensures.accepted c.event.ensures)

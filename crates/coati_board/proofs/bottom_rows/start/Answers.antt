@@ -13,6 +13,8 @@ returns c =
     let s = state c.args.device.now.image in
     let program = c.args.checked.now in
     let starts : IsAtStart (Bottom (head_entry s).event) (head_message program s) c.start.result =
-    subst (λ (job : Job). IsAtStart (Bottom job.event) (take (params_of program job.event) job.message) c.start.result) c.requires.job
-    (subst (λ (words : List ℕ). IsAtStart (Bottom c.args.job.event) words c.start.result) c.message.ensures.words c.start.ensures) in
+    subst (λ (job : Job). IsAtStart (Bottom job.event)
+    (take (params_of program job.event) job.message) c.start.result) c.requires.job
+    (subst (λ (words : List ℕ). IsAtStart (Bottom c.args.job.event) words c.start.result)
+    c.message.ensures.words c.start.ensures) in
     starts_bottom c.start.result c.requires.chooses c.requires.empty starts (cc)

@@ -4,7 +4,9 @@ use Rattle.coati_board.proofs.cursors.next_place.Given as goal
 
 abbrev pub invariant-loop-place : goal.invariant-loop-place
 invariant-loop-place l =
-    (l.place ≤ length l.postings) × (l.place + others l.device (drop l.place l.postings) ≡ l.fn.from + others l.fn.device (drop l.fn.from l.fn.postings))
+    (l.place ≤ length l.postings)
+    × (l.place + others l.device (drop l.place l.postings) ≡ l.fn.from + others l.fn.device
+    (drop l.fn.from l.fn.postings))
 
 abbrev pub decreases-loop-place : goal.decreases-loop-place
 decreases-loop-place l = length l.postings - l.place

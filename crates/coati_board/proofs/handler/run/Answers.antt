@@ -14,7 +14,8 @@ use Rattle.coati_board.proofs.handler.run.Goals.{After-is_over}
 pub loop-hand-init : goal.loop-hand-init
 loop-hand-init c = begins
 
-going : (c : After-is_over) → CanGoOn c.args.code.now c.args.event c.args.device.now c.loop-hand.hand c.loop-hand.device
+going : (c : After-is_over) →
+    CanGoOn c.args.code.now c.args.event c.args.device.now c.loop-hand.hand c.loop-hand.device
 going c =
     goes_anywhere (record {
       joins = c.accesses_join_up.ensures;
@@ -32,12 +33,14 @@ going c =
       logs = c.the_tail_entry_is_free.ensures.logs;
       free = c.the_tail_entry_is_free.ensures.free;
       adds = c.accepts_add_the_newest.ensures;
-    }) c.accepted_programs_compute_their_courses.ensures.tops c.bodies_stand_by_number.ensures c.args.code.now c.args.event c.args.first
+    }) c.accepted_programs_compute_their_courses.ensures.tops c.bodies_stand_by_number.ensures
+    c.args.code.now c.args.event c.args.first
     c.args.device.now c.requires c.loop-hand.hand c.loop-hand.device c.loop-hand.invariant
 
 timely : (c : After-is_over) → HasTime c.args.device.now c.loop-hand.device c.step-hand.new.device
 timely c =
-    has_time c.args.code.now c.args.event c.args.device.now c.loop-hand.hand c.step-hand.result c.loop-hand.device c.step-hand.new.device c.step-hand.ensures
+    has_time c.args.code.now c.args.event c.args.device.now c.loop-hand.hand c.step-hand.result
+    c.loop-hand.device c.step-hand.new.device c.step-hand.ensures
     (going c)
 
 pub step-hand-requires : goal.step-hand-requires
@@ -58,16 +61,19 @@ step-hand-requires c =
       logs = c.the_tail_entry_is_free.ensures.logs;
       free = c.the_tail_entry_is_free.ensures.free;
       adds = c.accepts_add_the_newest.ensures;
-    }) c.accepted_programs_compute_their_courses.ensures.tops c.bodies_stand_by_number.ensures c.args.code.now c.args.event c.args.first
+    }) c.accepted_programs_compute_their_courses.ensures.tops c.bodies_stand_by_number.ensures
+    c.args.code.now c.args.event c.args.first
     c.args.device.now c.requires c.loop-hand.hand c.loop-hand.device c.loop-hand.invariant).step
 
 pub returns-then-is_over-clause-leaves : goal.returns-then-is_over-clause-leaves
-returns-then-is_over-clause-leaves c = (timely (goal.at.returns-then-is_over-clause-leaves c).After-is_over).leaves
+returns-then-is_over-clause-leaves c =
+    (timely (goal.at.returns-then-is_over-clause-leaves c).After-is_over).leaves
 
 pub returns-then-is_over-clause-handles : goal.returns-then-is_over-clause-handles
 returns-then-is_over-clause-handles c =
     takes c.loop-hand.hand c.loop-hand.device c.loop-hand.invariant
-    (subst (λ (next : Hand). IsHandStep c.args.code.now c.args.event c.loop-hand.hand c.loop-hand.device next c.step-hand.new.device)
+    (subst (λ (next : Hand). IsHandStep c.args.code.now c.args.event c.loop-hand.hand
+    c.loop-hand.device next c.step-hand.new.device)
     (c.is_over.ensures.0 c.if-is_over.true) c.step-hand.ensures) refl
 
 not_over : (c : After-is_over) → IsFalse c.is_over.result → c.step-hand.result ≢ Over
@@ -78,28 +84,35 @@ not_over c false_ is = both c.is_over.result false_ (c.is_over.ensures.1 is)
     both false false_ true_ = cc
 
 pub overflow_add-result : goal.overflow_add-result
-overflow_add-result c = let boots = (timely (goal.at.overflow_add-result c).After-is_over).leaves.boots in omega (arith, boots)
+overflow_add-result c = let boots =
+    (timely (goal.at.overflow_add-result c).After-is_over).leaves.boots in omega (arith, boots)
 
 pub returns-then-device-eq1-clause-leaves : goal.returns-then-device-eq1-clause-leaves
-returns-then-device-eq1-clause-leaves c = (timely (goal.at.returns-then-device-eq1-clause-leaves c).After-is_over).leaves
+returns-then-device-eq1-clause-leaves c =
+    (timely (goal.at.returns-then-device-eq1-clause-leaves c).After-is_over).leaves
 
 pub returns-then-device-eq1-clause-handles : goal.returns-then-device-eq1-clause-handles
 returns-then-device-eq1-clause-handles c =
-    loses c.loop-hand.hand c.step-hand.result c.loop-hand.device c.loop-hand.invariant c.step-hand.ensures
-    (not_over (goal.at.returns-then-device-eq1-clause-handles c).After-is_over c.if-is_over.false) (search rules) refl
+    loses c.loop-hand.hand c.step-hand.result c.loop-hand.device c.loop-hand.invariant
+    c.step-hand.ensures
+    (not_over (goal.at.returns-then-device-eq1-clause-handles c).After-is_over c.if-is_over.false)
+    (search rules) refl
 
 pub pass-requires-clause-time : goal.pass-requires-clause-time
-pass-requires-clause-time c = (timely (goal.at.pass-requires-clause-time c).After-is_over).leaves.time
+pass-requires-clause-time c =
+    (timely (goal.at.pass-requires-clause-time c).After-is_over).leaves.time
 
 pub pass-requires-clause-spare : goal.pass-requires-clause-spare
-pass-requires-clause-spare c = (timely (goal.at.pass-requires-clause-spare c).After-is_over).leaves.spare
+pass-requires-clause-spare c =
+    (timely (goal.at.pass-requires-clause-spare c).After-is_over).leaves.spare
 
 pub loop-hand-smaller : goal.loop-hand-smaller
 loop-hand-smaller c =
     let time = timely (goal.at.loop-hand-smaller c).After-is_over in
     let same = time.same in
     let some = time.leaves.spare in
-    let less : c.pass.new.device.spare ≡ c.step-hand.new.device.spare - 1 = ap (λ (d : Device). d.spare) c.pass.ensures in
+    let less : c.pass.new.device.spare ≡ c.step-hand.new.device.spare - 1 =
+    ap (λ (d : Device). d.spare) c.pass.ensures in
     omega (arith, same, some, less)
 
 pub loop-hand-preserved : goal.loop-hand-preserved

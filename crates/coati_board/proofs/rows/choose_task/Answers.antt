@@ -4,4 +4,5 @@ use Rattle.coati_board.proofs.rows.choose_task.Goals as goal
 
 pub returns-in-Some : goal.returns-in-Some
 returns-in-Some c program =
-    empties c.put.new.image c.requires.chooses (λ e. c.if-task.false (cc)) c.in-Some.ensures.0 (c.put.ensures _ c.in-Some.ensures.1).written refl
+    empties c.put.new.image c.requires.chooses (λ e. c.if-task.false (cc)) c.in-Some.ensures.0
+    (c.put.ensures _ c.in-Some.ensures.1).written refl

@@ -10,7 +10,8 @@ use Rattle.coati_board.proofs.rows.end.Goals as goal
 pub returns-in-Some : goal.returns-in-Some
 returns-in-Some c code =
     let next = c.in-Some.ensures.next in
-    let open_ = undone (state c.args.device.now.image) next_seat c.args.place next.change next.next in
+    let open_ = undone (state c.args.device.now.image) next_seat c.args.place next.change
+    next.next in
     prepares c.args.place c.put.new.image c.requires.ends open_.other
     (subst (λ (change : Change). HasWritten c.args.device.now.image change c.put.new.image)
     open_.change_is

@@ -53,7 +53,8 @@ returns-then-is_over-clause-all c idle =
     let over = c.close.ensures.idle.0 idle in
     subst (λ (b : Whole). (turns_of postings b.device.history.marks).left ≡ [])
     (sym c.close.ensures.marked)
-    (none_at_end c.args.board.now c.loop-posting.board c.close.result c.loop-posting.invariant over)
+    (none_at_end c.args.board.now c.loop-posting.board c.close.result c.loop-posting.invariant
+    over)
 
 pub returns-then-is_over-clause-limit : goal.returns-then-is_over-clause-limit
 returns-then-is_over-clause-limit c limited =
@@ -91,7 +92,8 @@ stepped c =
 
 pub loop-posting-smaller : goal.loop-posting-smaller
 loop-posting-smaller c =
-    fewer_behind_step c.args.board.now c.loop-posting.board c.step.new.self c.loop-posting.invariant
+    fewer_behind_step c.args.board.now c.loop-posting.board c.step.new.self
+    c.loop-posting.invariant
     (stepped (goal.at.loop-posting-smaller c).After-step)
 
 pub loop-posting-preserved : goal.loop-posting-preserved

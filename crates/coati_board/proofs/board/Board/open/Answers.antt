@@ -5,6 +5,7 @@ pub invariant_of-result : goal.invariant_of-result
 invariant_of-result c =
     let made = c.in_ok-device.ensures in (
       c.requires.code,
-      opened_board c.args.checked c.args.mode c.args.script _ made.accepted made.sizes c.requires.script made.fresh.fresh
+      opened_board c.args.checked c.args.mode c.args.script _ made.accepted made.sizes
+          c.requires.script made.fresh.fresh
           made.fresh.cursors made.fresh.spare made.fresh.room c.devices_are_sound.ensures.fresh,
     )

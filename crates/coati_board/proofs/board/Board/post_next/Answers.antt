@@ -18,39 +18,62 @@ use Rattle.coati_board.proofs.board.Board.post_next.Goals.{After-raise}
 pub raise-requires-clause-can : goal.raise-requires-clause-can
 raise-requires-clause-can c =
     let inside = c.self.inside in
-    let same : inside.device ≡ c.args.self.now.device = ap (λ (w : Whole). w.device) c.self.view_is in
-    can_raise inside.checked inside.mode inside.script inside.device c.self.invariant.1 c.args.device c.requires.device
-    (subst (λ (d : Device). 0 < (cursor_of d.cursors c.args.device).left) (sym same) c.requires.left)
-    (subst (λ (w : Whole). handler_bound w.program ≤ w.device.spare) (sym c.self.view_is) c.requires.spare)
+    let same : inside.device ≡ c.args.self.now.device =
+    ap (λ (w : Whole). w.device) c.self.view_is in
+    can_raise inside.checked inside.mode inside.script inside.device c.self.invariant.1
+    c.args.device c.requires.device
+    (subst (λ (d : Device). 0 < (cursor_of d.cursors c.args.device).left) (sym same)
+    c.requires.left)
+    (subst (λ (w : Whole). handler_bound w.program ≤ w.device.spare) (sym c.self.view_is)
+    c.requires.spare)
     (ap (λ (d : Device). end_of d.history.marks) same ∙ c.requires.open)
 
 device_is : (c : After-raise) → c.self.inside.device ≡ c.args.self.now.device
 device_is c = ap (λ (w : Whole). w.device) c.self.view_is
 
-raises : (c : After-raise) → Raises c.self.inside.checked (program_code c.self.inside.checked) c.self.inside.script.power
-    c.self.inside.script.postings c.args.device c.self.inside.device c.raise.new.device c.raise.result
+raises : (c : After-raise) →
+    Raises c.self.inside.checked (program_code c.self.inside.checked) c.self.inside.script.power
+    c.self.inside.script.postings c.args.device c.self.inside.device c.raise.new.device
+    c.raise.result
 raises c =
     let inside = c.self.inside in
-    subst (λ (code : Bodies). Raises inside.checked code inside.script.power inside.script.postings c.args.device inside.device
+    subst (λ (code : Bodies). Raises inside.checked code inside.script.power inside.script.postings
+    c.args.device inside.device
     c.raise.new.device c.raise.result) c.self.invariant.0 c.raise.ensures
 
--- the fields are those of a board on which a device may raise its next posting, and then of one on which it has
-raised : (c : After-raise) → RaisesOn c.self.inside.checked c.self.inside.mode c.self.inside.script c.self.inside.device c.raise.new.device c.raise.result
+-- the fields are those of a board on which a device may raise its next posting, and then of one on
+-- which it has
+raised : (c : After-raise) →
+    RaisesOn c.self.inside.checked c.self.inside.mode c.self.inside.script c.self.inside.device
+    c.raise.new.device c.raise.result
 raised c =
     let inside = c.self.inside in
-    raise_keeps inside.checked inside.mode inside.script c.args.device inside.device c.raise.new.device c.raise.result c.self.invariant.1
+    raise_keeps inside.checked inside.mode inside.script c.args.device inside.device
+    c.raise.new.device c.raise.result c.self.invariant.1
     c.requires.device
-    (subst (λ (d : Device). 0 < (cursor_of d.cursors c.args.device).left) (sym (device_is c)) c.requires.left)
-    (subst (λ (w : Whole). handler_bound w.program ≤ w.device.spare) (sym c.self.view_is) c.requires.spare)
-    (ap (λ (d : Device). end_of d.history.marks) (device_is c) ∙ c.requires.open) c.raises_keep_devices.ensures (raises c)
+    (subst (λ (d : Device). 0 < (cursor_of d.cursors c.args.device).left) (sym (device_is c))
+    c.requires.left)
+    (subst (λ (w : Whole). handler_bound w.program ≤ w.device.spare) (sym c.self.view_is)
+    c.requires.spare)
+    (ap (λ (d : Device). end_of d.history.marks) (device_is c) ∙ c.requires.open)
+    c.raises_keep_devices.ensures (raises c)
 
 pub invariant_of-self : goal.invariant_of-self
-invariant_of-self c = (c.self.invariant.0, (raised (goal.at.invariant_of-self c).After-raise).board)
+invariant_of-self c = (
+  c.self.invariant.0,
+  (raised (goal.at.invariant_of-self c).After-raise).board,
+)
 
 pub returns-clause-raise : goal.returns-clause-raise
 returns-clause-raise c =
     let inside = c.self.inside in
-    let new : Whole = record { program = inside.checked; mode = inside.mode; script = inside.script; device = c.raise.new.device } in
+    let new : Whole = record {
+      program = inside.checked;
+      mode = inside.mode;
+      script =
+          inside.script;
+      device = c.raise.new.device;
+    } in
     subst (λ (w : Whole). IsRaise w c.args.device new c.raise.result) c.self.view_is
     (record {
       raised = raises (goal.at.returns-clause-raise c).After-raise;
@@ -60,35 +83,43 @@ returns-clause-raise c =
 pub returns-clause-open : goal.returns-clause-open
 returns-clause-open c =
     let c = (goal.at.returns-clause-open c).After-raise in
-    (raised c).leaves.ends ∙ ap (λ (d : Device). end_of d.history.marks) (device_is c) ∙ c.requires.open
+    (raised c).leaves.ends ∙ ap (λ (d : Device). end_of d.history.marks) (device_is c)
+    ∙ c.requires.open
 
 pub returns-clause-full : goal.returns-clause-full
 returns-clause-full c =
     let c = (goal.at.returns-clause-full c).After-raise in
-    subst (λ (d : Device). (c.raise.result ≡ Full) ↔ (is_full (state d.image) ≡ true)) (device_is c) (raised c).leaves.full
+    subst (λ (d : Device). (c.raise.result ≡ Full) ↔ (is_full (state d.image) ≡ true))
+    (device_is c) (raised c).leaves.full
 
 pub returns-clause-refused : goal.returns-clause-refused
 returns-clause-refused c =
     let c = (goal.at.returns-clause-refused c).After-raise in
-    subst (λ (d : Device). c.raise.result ≡ Full → IsRefused d c.raise.new.device) (device_is c) (raised c).leaves.refused
+    subst (λ (d : Device). c.raise.result ≡ Full → IsRefused d c.raise.new.device) (device_is c)
+    (raised c).leaves.refused
 
 pub returns-clause-steps : goal.returns-clause-steps
 returns-clause-steps c =
-    let c = (goal.at.returns-clause-steps c).After-raise in (raised c).steps ∙ ap (λ (d : Device). d.steps) (device_is c)
+    let c = (goal.at.returns-clause-steps c).After-raise in
+    (raised c).steps ∙ ap (λ (d : Device). d.steps) (device_is c)
 
 pub returns-clause-spare : goal.returns-clause-spare
 returns-clause-spare c =
     let c = (goal.at.returns-clause-spare c).After-raise in
-    subst (λ (w : Whole). w.device.spare ≤ c.raise.new.device.spare + handler_bound w.program) c.self.view_is (raised c).spare
+    subst (λ (w : Whole). w.device.spare ≤ c.raise.new.device.spare + handler_bound w.program)
+    c.self.view_is (raised c).spare
 
 pub returns-clause-grows : goal.returns-clause-grows
 returns-clause-grows c =
     let c = (goal.at.returns-clause-grows c).After-raise in
-    subst (λ (d : Device). IsPrefix d.history.marks c.raise.new.device.history.marks) (device_is c) (raised c).grows.marks
+    subst (λ (d : Device). IsPrefix d.history.marks c.raise.new.device.history.marks) (device_is c)
+    (raised c).grows.marks
 
 pub returns-clause-kept : goal.returns-clause-kept
 returns-clause-kept c committed has =
     let c = (goal.at.returns-clause-kept c).After-raise in
     let same = device_is c in
-    subst (λ (d : Device). readings_in c.raise.new.device.history.readings committed ≡ readings_in d.history.readings committed) same
-    ((raised c).grows.kept committed (subst (λ (d : Device). HasRecord d.history committed) (sym same) has))
+    subst (λ (d : Device). readings_in c.raise.new.device.history.readings committed ≡ readings_in
+    d.history.readings committed) same
+    ((raised c).grows.kept committed
+    (subst (λ (d : Device). HasRecord d.history committed) (sym same) has))

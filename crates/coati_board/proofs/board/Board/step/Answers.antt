@@ -63,7 +63,8 @@ pub returns-clause-kept : goal.returns-clause-kept
 returns-clause-kept c committed has =
     let c = (goal.at.returns-clause-kept c).After-advance in
     let same = device_is c in
-    subst (λ (d : Device). readings_in c.advance.new.device.history.readings committed ≡ readings_in
+    subst (λ (d : Device). readings_in c.advance.new.device.history.readings committed
+    ≡ readings_in
     d.history.readings committed) same
     ((stepped c).grows.kept committed
     (subst (λ (d : Device). HasRecord d.history committed) (sym same) has))

@@ -6,4 +6,5 @@ pub load-requires-clause-word : goal.load-requires-clause-word
 load-requires-clause-word c = word_below c.args.self.now.image.now c.args.word c.requires
 
 pub returns-clause-value : goal.returns-clause-value
-returns-clause-value c = c.load.ensures ∙ sym (word_at c.args.self.now.image.now c.args.word c.requires)
+returns-clause-value c = c.load.ensures ∙ sym
+    (word_at c.args.self.now.image.now c.args.word c.requires)

@@ -1,5 +1,6 @@
 pub mod Bodies
 pub mod Elements
+pub mod Following
 pub mod Gifts
 pub mod Giving
 pub mod Keeping
@@ -10,6 +11,8 @@ pub mod Params
 pub mod Reaching
 pub mod Rests
 pub mod Rising
+pub mod Rounding
+pub mod SameReadings
 pub mod Steps
 pub mod Telling
 pub mod Ways

@@ -11,7 +11,7 @@ use Rattle.serial_run.specs.Units.{TasksLead}
 use Rattle.serial_run.proofs.Steps.{behind_all-append, store-behind_all}
 
 module _ (program : Program) (task : ℕ) (store : Store) where
-  one-further : (count : ℕ) (before : Reached) → tasks_effect program task store count ≡ Some before → is_inside program task before.place ≡ true →
+  pub one-further : (count : ℕ) (before : Reached) → tasks_effect program task store count ≡ Some before → is_inside program task before.place ≡ true →
       tasks_effect program task store (count + 1) ≡ Some (followed_by before (task_effect program before.place (after before.done store)))
   one-further zero before found inside = absurd (let never : None ≡ Some before = found in cc)
   one-further (suc count) before found inside = rw (add-one, found, inside) refl

@@ -4,6 +4,7 @@
 pub mod Moments
 pub mod Outcomes
 pub mod Touched
+pub mod Followed
 -- How the code's own types are seen: its runs, its locals, where it aims, and where it goes on.
 pub mod Fits
 pub mod Runs
@@ -11,3 +12,4 @@ pub mod Locals
 pub mod Aims
 pub mod Ways
 pub mod Units
+pub mod Rounds

@@ -5,6 +5,7 @@
 mod body;
 mod event_runs;
 mod expression;
+mod follow;
 mod kept;
 mod locals;
 mod outcome;
@@ -16,6 +17,7 @@ mod target;
 mod unit;
 mod words;
 
+pub use follow::Followed;
 pub use outcome::{Outcome, TxRun};
 pub use readings::Readings;
 pub use store::SerialStore;

@@ -1,4 +1,4 @@
-ghost use Rattle.std.specs.Prelude.{◌≡◌};
+ghost use Rattle.std.specs.Prelude.{◌≡◌, ◌↔◌, IsTrue};
 
 use coati_word::Reading;
 use std::marker::Model;
@@ -30,5 +30,11 @@ impl Readings {
         ensures { result.now ≡ self.now }
     {
         self.items.as_slice()
+    }
+    /// Whether these are the readings.
+    pub fn are(&self, reads: &[Reading]) -> bool
+        ensures { IsTrue result ↔ (self.now ≡ reads.now) }
+    {
+        self.items.as_slice() == reads
     }
 }

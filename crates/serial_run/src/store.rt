@@ -4,16 +4,18 @@ ghost use Rattle.task_syntax.specs.Names.{first_values, opening_values, tasks, w
 ghost use Rattle.task_syntax.specs.Units.{first_task, task_course, tasks_effect, whole_effect};
 ghost use Rattle.task_syntax.specs.Written.{is_written};
 ghost use Rattle.task_check.specs.Counts.{transactions};
+ghost use Rattle.serial_run.specs.Followed.{FollowsUnit};
 ghost use Rattle.serial_run.specs.Moments.{Leaves, touching_from};
 ghost use Rattle.serial_run.specs.Runs.{moment_of};
 ghost use Rattle.serial_run.specs.Touched.{TellsShared, TellsWords};
 
 use crate::body::run_task;
 use crate::event_runs::run_halves;
+use crate::follow::{Followed, follow_tasks};
 use crate::run::Run;
 use crate::unit::{ending_at, is_inside, run_tasks};
 use crate::{Outcome, TxRun, Words};
-use coati_word::{Ending, OutOfMemory};
+use coati_word::{Ending, OutOfMemory, Reading};
 use std::alloc::Global;
 use std::marker::Model;
 use task_check::Checked;
@@ -68,6 +70,19 @@ impl SerialStore {
         ensures { IfOk result (λ ran. TellsCourse self (task_course checked.now task) ran.0
             ran.1) }
     {
+        self.ran(checked, task)
+    }
+
+    /// Runs a task. One that isn't there does nothing and ends.
+    pub(crate) fn ran(
+        self,
+        checked: &Checked,
+        task: u16,
+    ) -> Result<(SerialStore, Outcome), OutOfMemory>
+        requires { length self ≡ word_count checked.now.vars }
+        ensures { IfOk result (λ ran. TellsCourse self (task_course checked.now task) ran.0
+            ran.1) }
+    {
         let SerialStore { alloc, words } = self;
         let mut run = Run::reading(alloc, words);
         let ending = run_task(alloc, checked, &mut run, task)?;
@@ -93,6 +108,25 @@ impl SerialStore {
             }
             _ => Ok(TxRun::Other),
         }
+    }
+
+    /// Runs so many tasks of a transaction from its first one on, where they make it whole and read
+    /// exactly this. No more of them run than the readings ask for: none behind a task that reads
+    /// anything else, nor where tasks go round without a reading.
+    pub fn follow_tx(
+        self,
+        checked: &Checked,
+        tx: u16,
+        count: u32,
+        reads: &[Reading],
+    ) -> Result<Option<Followed>, OutOfMemory>
+        requires words { length self ≡ word_count checked.now.vars }
+        requires tx { tx < length (transactions checked.now) }
+        ensures { IfOk result (FollowsUnit self
+            (option_and_then (λ first. whole_effect checked.now first (slice_index self) count)
+            (first_task checked.now tx)) reads.now) }
+    {
+        follow_tasks(self, checked, checked.first_of_tx(tx), count, reads)
     }
 
     /// Runs an event on an argument: its top half, which sees no variable, and its bottom half on

@@ -39,7 +39,7 @@ pub(crate) fn run_tasks(
 }
 
 /// Where an ending leads.
-fn place_after(ending: Ending) -> u16
+pub(crate) fn place_after(ending: Ending) -> u16
     ensures { result ≡ place_after ending }
 {
     match ending {

@@ -5,7 +5,7 @@ use Rattle.task_syntax.specs.Units.{task_course}
 use Rattle.serial_run.specs.Moments.{reading_from}
 use Rattle.serial_run.specs.Runs.{moment_of}
 use Rattle.serial_run.proofs.Telling.{tells, ran-from, ended-from}
-use Rattle.serial_run.proofs.store.SerialStore.run_task.Goals as goal
+use Rattle.serial_run.proofs.store.SerialStore.ran.Goals as goal
 
 pub returns : goal.returns
 returns c =

@@ -1,0 +1,9 @@
+pub mod Words
+pub mod Names
+pub mod Shown
+pub mod Printed
+pub mod Front
+pub mod Lookups
+pub mod LineReading
+pub mod Reading
+pub mod Answer

@@ -1,13 +1,13 @@
 -- The lines of an input are those of its source, the line `%%`, and those of its trace.
-use Rattle.std.proofs.Common.{◌≡◌, ◌≢◌, ℕ, ◌+◌, ◌≤◌, ◌<◌, true, false, List, [], ◌∷◌, ◌++◌, length, refl, sym, ap, ◌∙◌, subst, arith, inl, inr, append_assoc, ltb-true}
-use Rattle.std.specs.Prelude.{◌==◌, nat_lt}
+use Rattle.std.proofs.Common.{◌≡◌, ℕ, ◌+◌, ◌≤◌, ◌<◌, true, List, [], ◌∷◌, ◌++◌, length, refl, ap, ◌∙◌, arith, inl, inr, append_assoc, ltb-true}
+use Rattle.std.specs.Prelude.{◌==◌}
 use Rattle.std.proofs.lemmas.Bool.{cases_Bool}
 use Rattle.coati_text.specs.Line.{line_feed, lines_of, with_front}
 use Rattle.coati_text.proofs.LineEnds.{lines_of-first}
 use Rattle.coati_top.specs.Divided.{HasEnds, IsDivided, divider, second_part, source_part, empty, ended, at_line, at_last, nowhere}
 use Rattle.coati_top.proofs.Dividers.{IsDivided-parts}
 use Rattle.coati_explain.specs.Answer.{has_trace}
-use Rattle.coati_explain.specs.Spot.{line_among, line_of}
+use Rattle.coati_explain.specs.Spot.{line_of}
 use Rattle.coati_explain.specs.Trace.{divider_line}
 use Rattle.coati_explain.proofs.Spots.{line_among-behind, line_among-later}
 

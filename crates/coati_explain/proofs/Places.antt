@@ -1,5 +1,5 @@
 -- Faults and tokens lie within their source.
-use Rattle.std.proofs.Common.{◌≡◌, ℕ, ◌+◌, ◌≤◌, List, [], ◌∷◌, ◌++◌, length, ap, arith, length-append}
+use Rattle.std.proofs.Common.{◌≡◌, ℕ, ◌+◌, ◌≤◌, List, length, ap, arith, length-append}
 use Rattle.task_lex.specs.Reading.{FaultAt, Reads, nothing, gap, token}
 use Rattle.task_lex.specs.declared.token.Token.{Token}
 

@@ -1,5 +1,5 @@
 -- The line that is told of a trace is one of its lines, or the one before them.
-use Rattle.std.proofs.Common.{◌≡◌, ℕ, ◌+◌, ◌≤◌, true, false, List, [], ◌∷◌, ◌++◌, length, ap, arith, inl, inr, length-append}
+use Rattle.std.proofs.Common.{ℕ, ◌+◌, ◌≤◌, List, [], ◌∷◌, length, ap, arith, inl, inr, length-append}
 use Rattle.std.specs.Prelude.{Option}
 use Rattle.std.proofs.lemmas.Bool.{cases_Bool}
 use Rattle.coati_text.specs.Line.{lines_of}
@@ -11,7 +11,7 @@ use Rattle.trace_text.specs.Trace.{FaultAt}
 use Rattle.trace_text.specs.declared.fault.TraceFault.{TraceFault}
 use Rattle.trace_text.specs.declared.fault.TraceFault.TheVariants as fault
 use Rattle.trace_text.proofs.LineCounts.{lines_of-at_most}
-use Rattle.coati_explain.specs.Trace.{first_among, first_said, told_line}
+use Rattle.coati_explain.specs.Trace.{first_among, told_line}
 
 first_among-within : (passed : ℕ) (lines : List (List ℕ)) → first_among passed lines ≤ passed + length lines
 first_among-within passed [] = omega arith

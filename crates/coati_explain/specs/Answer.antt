@@ -19,15 +19,16 @@ abbrev pub has_trace : List ℕ → Bool
 has_trace input = nat_lt (length (source_part input)) (length input)
 
 -- the answer to an input: its status, and its text
-pub data Answers (input : List ℕ) (status : Status) (text : List ℕ) : Type 0 where
+pub data IsExplanation (input : List ℕ) (status : Status) (text : List ℕ) : Type 0 where
   refused : (fault : SourceFault) → IsSourceFault input fault
-      → status ≡ Refused → IsExplained (source_part input) fault text → Answers input status text
+      → status ≡ Refused → IsExplained (source_part input) fault text →
+      IsExplanation input status text
   untraced : (program : Program) (fault : TraceFault) → HasAccepted input program →
       has_trace input ≡ true → FirstFault program (second_part input) fault
-      → status ≡ BadTrace → text ≡ trace_explanation input fault → Answers input status text
+      → status ≡ BadTrace → text ≡ trace_explanation input fault → IsExplanation input status text
   accepted : (program : Program) → HasAccepted input program → has_trace input ≡ false
-      → status ≡ Ok → text ≡ accepted_text program → Answers input status text
+      → status ≡ Ok → text ≡ accepted_text program → IsExplanation input status text
   traced : (program : Program) (script : Script) → HasAccepted input program →
       has_trace input ≡ true → TraceText program (second_part input) script
       → status ≡ Ok → text ≡ accepted_text program ++ script_text script →
-      Answers input status text
+      IsExplanation input status text

@@ -1,24 +1,18 @@
 -- What a person trips over, told from the line of a fault.
-use Rattle.std.specs.Prelude.{ℕ, ◌-◌, ◌==◌, ◌&&◌, ◌||◌, Bool, true, false, List, [], ◌∷◌, bytes_eq, codes, length, not, slice_index, if◌then◌else◌}
+use Rattle.std.specs.Prelude.{ℕ, ◌-◌, ◌==◌, ◌&&◌, ◌||◌, Bool, List, [], ◌∷◌, bytes_eq, codes, length, not, slice_index, if◌then◌else◌}
 use Rattle.std.specs.List.{list_all}
+use Rattle.coati_top.specs.Divided.{percent}
 use Rattle.coati_explain.specs.declared.hint.Hint.{Hint}
+use Rattle.task_lex.specs.Byte.{carriage_return, space, tab}
 use Rattle.coati_explain.specs.declared.hint.Hint.TheVariants as hint
 
--- the byte CR
-abbrev pub carriage_return : ℕ
-carriage_return = 13
-
--- the byte `%`
-abbrev pub percent : ℕ
-percent = 37
-
--- a space, a tab or a CR
-abbrev pub is_blank : ℕ → Bool
-is_blank byte = byte == 32 || byte == 9 || byte == carriage_return
+-- a space, a tab or a CR: the blanks of a line
+abbrev pub is_line_blank : ℕ → Bool
+is_line_blank byte = byte == space || byte == tab || byte == carriage_return
 
 -- the bytes are blanks, one at least
 abbrev pub are_blanks : List ℕ → Bool
-are_blanks bytes = not (length bytes == 0) && list_all is_blank bytes
+are_blanks bytes = not (length bytes == 0) && list_all is_line_blank bytes
 
 -- of what stands behind `%%` in a line
 abbrev pub behind_hint : List ℕ → Hint

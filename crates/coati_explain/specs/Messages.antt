@@ -1,5 +1,5 @@
 -- What is told of each fault of a source: its place, its message, and the text that belongs to it.
-use Rattle.std.specs.Prelude.{◌≡◌, ℕ, ◌-◌, ◌==◌, ◌&&◌, ◌||◌, Bool, true, false, List, [], ◌∷◌, ◌++◌, bytes_eq, codes, drop, is_some, length, min, slice_get, slice_range, take, if◌then◌else◌}
+use Rattle.std.specs.Prelude.{◌≡◌, ℕ, ◌-◌, ◌==◌, ◌&&◌, ◌||◌, Bool, false, List, [], ◌∷◌, ◌++◌, bytes_eq, codes, drop, is_some, length, min, slice_get, slice_range, take, if◌then◌else◌}
 use Rattle.std.specs.Char.{is_ascii_digit}
 use Rattle.std.specs.List.{list_all, prefix_len}
 use Rattle.std.specs.Option.{option_map_or}
@@ -18,8 +18,8 @@ use Rattle.coati_explain.specs.Asked.{asked_of}
 use Rattle.coati_explain.specs.Hints.{divider_hint, hint_text}
 use Rattle.coati_explain.specs.Labels.{label_of}
 use Rattle.coati_explain.specs.Shown.{caret_line, is_printable, shown_line}
-use Rattle.coati_explain.specs.Spot.{line_of, spot_of}
-use Rattle.coati_explain.specs.Words.{words_of}
+use Rattle.coati_explain.specs.Spot.{line_of, spot_at}
+use Rattle.coati_explain.specs.Words.{wording}
 
 -- where a fault is, and what, on a line
 abbrev pub heading : Spot → List ℕ → List ℕ → List ℕ
@@ -37,13 +37,13 @@ located source here words label asked =
 -- a message about a place of the source, of the word there and the one before it
 abbrev pub explanation : List ℕ → SourceFault → ℕ → Message → List ℕ → List ℕ → List ℕ
 explanation source fault at message word before =
-    located source (spot_of source at) (words_of message word before) (label_of fault)
+    located source (spot_at source at) (wording message word before) (label_of fault)
     (asked_of message)
 
 -- the letters, digits and `_` at the front of a text: a name, a word of the language, a number, or
 -- what looks like one
-abbrev pub first_word : List ℕ → List ℕ
-first_word text = take (prefix_len is_name_byte text) text
+abbrev pub front_word : List ℕ → List ℕ
+front_word text = take (prefix_len is_name_byte text) text
 
 -- the text begins with a byte order mark
 abbrev pub begins_with_mark : List ℕ → Bool
@@ -147,10 +147,10 @@ IsExplained source (fault.Lexical at) text =
     text ≡ explanation source (fault.Lexical at) at (lexical_message at (drop at source))
     (take 1 (drop at source)) []
 IsExplained source (fault.Number at) text =
-    text ≡ explanation source (fault.Number at) at (number_message (first_word (drop at source)))
-    (first_word (drop at source)) []
+    text ≡ explanation source (fault.Number at) at (number_message (front_word (drop at source)))
+    (front_word (drop at source)) []
 IsExplained source (fault.Syntax number) text = IsOfTokens source (syntax_text source number) text
 IsExplained source (fault.Deep number) text = IsOfTokens source (deep_text source number) text
 IsExplained source (fault.Rule rule at) text =
     text ≡ explanation source (fault.Rule rule at) (min at (length source))
-    (rule_message rule (first_word (drop at source))) (first_word (drop at source)) []
+    (rule_message rule (front_word (drop at source))) (front_word (drop at source)) []

@@ -16,8 +16,8 @@ spot_among passed number (line ∷ more) at =
     else spot_among (spot number (length line + 1)) (number + 1) more (at - (length line + 1))
 
 -- where a place of the text lies; its end lies behind the last byte of its last line
-abbrev pub spot_of : List ℕ → ℕ → Spot
-spot_of text at = spot_among (spot 1 1) 1 (lines_of text) at
+abbrev pub spot_at : List ℕ → ℕ → Spot
+spot_at text at = spot_among (spot 1 1) 1 (lines_of text) at
 
 -- the line of a number, counted from 1, among these
 abbrev pub line_among : List (List ℕ) → ℕ → List ℕ
@@ -29,15 +29,15 @@ abbrev pub line_of : List ℕ → ℕ → List ℕ
 line_of text number = line_among (lines_of text) number
 
 -- how many bytes these lines have, each with its end
-abbrev pub width : List (List ℕ) → ℕ
-width [] = 0
-width (line ∷ more) = length line + 1 + width more
+abbrev pub extent : List (List ℕ) → ℕ
+extent [] = 0
+extent (line ∷ more) = length line + 1 + extent more
 
 -- the place is one of a line or of its end, or it is the end of the text, behind its last line
 pub data LiesAt (text : List ℕ) (at : ℕ) (here : Spot) : Type 0 where
   in_line : (front : List (List ℕ)) (line : List ℕ) (more : List (List ℕ)) →
       lines_of text ≡ front ++ line ∷ more
-      → here.line ≡ length front + 1 → at + 1 ≡ width front + here.column → 1 ≤ here.column →
+      → here.line ≡ length front + 1 → at + 1 ≡ extent front + here.column → 1 ≤ here.column →
       here.column ≤ length line + 1
       → LiesAt text at here
   at_end : (front : List (List ℕ)) (line : List ℕ) → lines_of text ≡ front ++ line ∷ [] →

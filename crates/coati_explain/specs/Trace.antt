@@ -13,7 +13,7 @@ use Rattle.coati_explain.specs.Hints.{hint_text, return_hint}
 use Rattle.coati_explain.specs.Labels.{trace_label}
 use Rattle.coati_explain.specs.Shown.{shown_line}
 use Rattle.coati_explain.specs.Spot.{line_of}
-use Rattle.coati_explain.specs.Words.{words_of}
+use Rattle.coati_explain.specs.Words.{wording}
 
 -- the line `%%`, which stands before the trace
 abbrev pub divider_line : List ℕ → ℕ
@@ -65,5 +65,5 @@ lined input number words label asked =
 abbrev pub trace_explanation : List ℕ → TraceFault → List ℕ
 trace_explanation input fault =
     lined input (divider_line input + told_line (second_part input) fault)
-    (words_of (trace_message (second_part input) fault) [] [])
+    (wording (trace_message (second_part input) fault) [] [])
     (trace_label fault) (asked_of (trace_message (second_part input) fault))

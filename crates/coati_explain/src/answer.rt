@@ -4,7 +4,7 @@ ghost use Rattle.coati_top.specs.Divided.{second_part};
 ghost use Rattle.coati_top.specs.Source.{HasAccepted, IsSourceFault};
 ghost use Rattle.trace_text.specs.Answer.{Explains};
 ghost use Rattle.trace_text.specs.Trace.{TraceText};
-ghost use Rattle.coati_explain.specs.Answer.{Answers, has_trace};
+ghost use Rattle.coati_explain.specs.Answer.{IsExplanation, has_trace};
 
 use crate::accepted::{put_accepted, put_script};
 use crate::source_text::source_text;
@@ -26,7 +26,7 @@ pub(crate) struct Reply {
 /// The answer to the input.
 pub(crate) fn answer_to(alloc: Global, input: &[u8]) -> Result<Reply, OutOfMemory>
     requires { length input.now ≤ 262144 }
-    ensures { IfOk result (λ reply. Answers input.now reply.status reply.text.items) }
+    ensures { IfOk result (λ reply. IsExplanation input.now reply.status reply.text.items) }
 {
     match read_source(alloc, input) {
         Ok(checked) => answer_about(alloc, input, &checked),
@@ -39,7 +39,7 @@ pub(crate) fn answer_to(alloc: Global, input: &[u8]) -> Result<Reply, OutOfMemor
 fn refused(alloc: Global, input: &[u8], fault: SourceFault) -> Result<Reply, OutOfMemory>
     requires small { length input.now ≤ 262144 }
     requires fault { IsSourceFault input.now fault }
-    ensures { IfOk result (λ reply. Answers input.now reply.status reply.text.items) }
+    ensures { IfOk result (λ reply. IsExplanation input.now reply.status reply.text.items) }
 {
     let text = source_text(alloc, input, fault)?;
     Ok(Reply {
@@ -52,7 +52,7 @@ fn refused(alloc: Global, input: &[u8], fault: SourceFault) -> Result<Reply, Out
 fn answer_about(alloc: Global, input: &[u8], checked: &Checked) -> Result<Reply, OutOfMemory>
     requires small { length input.now ≤ 262144 }
     requires source { HasAccepted input.now checked.now }
-    ensures { IfOk result (λ reply. Answers input.now reply.status reply.text.items) }
+    ensures { IfOk result (λ reply. IsExplanation input.now reply.status reply.text.items) }
 {
     if has_trace(input) {
         return answer_about_trace(alloc, input, checked);
@@ -77,7 +77,7 @@ fn answer_about_trace(alloc: Global, input: &[u8], checked: &Checked) -> Result<
     requires small { length input.now ≤ 262144 }
     requires source { HasAccepted input.now checked.now }
     requires trace { has_trace input.now ≡ true }
-    ensures { IfOk result (λ reply. Answers input.now reply.status reply.text.items) }
+    ensures { IfOk result (λ reply. IsExplanation input.now reply.status reply.text.items) }
 {
     match read_trace(alloc, checked, second_part(input)) {
         Ok(script) => traced(alloc, input, checked, &script),
@@ -96,7 +96,7 @@ fn untraced(
     requires source { HasAccepted input.now checked.now }
     requires trace { has_trace input.now ≡ true }
     requires fault { Explains checked.now (second_part input.now) fault }
-    ensures { IfOk result (λ reply. Answers input.now reply.status reply.text.items) }
+    ensures { IfOk result (λ reply. IsExplanation input.now reply.status reply.text.items) }
 {
     let text = trace_text_of(alloc, input, fault)?;
     Ok(Reply {
@@ -115,7 +115,7 @@ fn traced(
     requires source { HasAccepted input.now checked.now }
     requires trace { has_trace input.now ≡ true }
     requires script { TraceText checked.now (second_part input.now) script.now }
-    ensures { IfOk result (λ reply. Answers input.now reply.status reply.text.items) }
+    ensures { IfOk result (λ reply. IsExplanation input.now reply.status reply.text.items) }
 {
     scripts_are_within_the_limits();
     let mut text = Vec::new(alloc);

@@ -1,6 +1,6 @@
 ghost use Rattle.std.specs.Prelude.{◌≡◌, ◌++◌, OnOk};
 ghost use Rattle.std.specs.List.{list_all};
-ghost use Rattle.coati_explain.specs.Hints.{are_blanks, behind_hint, divider_hint, ends_with_return, hint_text, is_blank, return_hint};
+ghost use Rattle.coati_explain.specs.Hints.{are_blanks, behind_hint, divider_hint, ends_with_return, hint_text, is_line_blank, return_hint};
 
 use coati_top::put;
 use coati_word::OutOfMemory;
@@ -45,14 +45,14 @@ fn are_blanks(bytes: &[u8]) -> bool
 }
 
 fn has_only_blanks(bytes: &[u8]) -> bool
-    ensures { result ≡ list_all is_blank bytes.now }
+    ensures { result ≡ list_all is_line_blank bytes.now }
 {
-    bytes.iter().all(|byte| is_blank(*byte))
+    bytes.iter().all(|byte| is_line_blank(*byte))
 }
 
 /// Whether the byte is a space, a tab or a CR.
-fn is_blank(byte: u8) -> bool
-    ensures { result ≡ is_blank byte }
+fn is_line_blank(byte: u8) -> bool
+    ensures { result ≡ is_line_blank byte }
 {
     matches!(byte, b' ' | b'\t' | b'\r')
 }

@@ -3,13 +3,13 @@ ghost use Rattle.std.specs.Prelude.{◌≡◌, ℕ, ◌+◌, ◌≤◌, true, Li
 ghost use Rattle.coati_text.specs.Line.{lines_of};
 ghost use Rattle.coati_top.specs.Divided.{divider, second_part};
 ghost use Rattle.coati_explain.specs.Answer.{has_trace};
-ghost use Rattle.coati_explain.specs.Spot.{LiesAt, line_of, spot_of};
+ghost use Rattle.coati_explain.specs.Spot.{LiesAt, line_of, spot_at};
 ghost use Rattle.coati_explain.specs.Trace.{divider_line};
 
 /// Each place of a text, and its end, lies at the spot that is told, and the line of a number is
 /// the one with as many lines before it as that number counts.
 pub fn places_lie_in_their_lines()
-    ensures spot { (text : List ℕ) (at : ℕ) → at ≤ length text → LiesAt text at (spot_of text at) }
+    ensures spot { (text : List ℕ) (at : ℕ) → at ≤ length text → LiesAt text at (spot_at text at) }
     ensures line { (text : List ℕ) (front : List (List ℕ)) (line : List ℕ) (more : List (List ℕ))
         → lines_of text ≡ front ++ line ∷ more → line_of text (length front + 1) ≡ line }
 {}

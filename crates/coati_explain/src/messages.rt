@@ -3,7 +3,7 @@ ghost use Rattle.std.specs.Prelude.{◌≡◌, ◌≤◌, drop, length, take};
 ghost use Rattle.std.specs.Char.{is_ascii_digit};
 ghost use Rattle.std.specs.List.{list_all, prefix_len};
 ghost use Rattle.task_lex.specs.Byte.{is_name_byte};
-ghost use Rattle.coati_explain.specs.Messages.{begins_with_mark, byte_message, deep_message, first_word, is_bracket, lexical_message, number_message, rule_message};
+ghost use Rattle.coati_explain.specs.Messages.{begins_with_mark, byte_message, deep_message, front_word, is_bracket, lexical_message, number_message, rule_message};
 
 use crate::message::Message;
 use crate::shown::is_printable;
@@ -25,8 +25,8 @@ pub(crate) fn first_byte(text: &[u8]) -> &[u8]
 }
 
 /// The letters, digits and `_` at the front.
-pub(crate) fn first_word(text: &[u8]) -> &[u8]
-    ensures { result.now ≡ first_word text.now }
+pub(crate) fn front_word(text: &[u8]) -> &[u8]
+    ensures { result.now ≡ front_word text.now }
 {
     &text[..word_len(text)]
 }

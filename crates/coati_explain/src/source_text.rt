@@ -6,16 +6,16 @@ ghost use Rattle.coati_top.specs.Source.{IsSourceFault};
 ghost use Rattle.coati_top.specs.Divided.{source_part};
 ghost use Rattle.coati_explain.specs.Labels.{label_of};
 ghost use Rattle.coati_explain.specs.Messages.{IsExplained, explanation, heading};
-ghost use Rattle.coati_explain.specs.Words.{words_of};
+ghost use Rattle.coati_explain.specs.Words.{wording};
 
 use crate::asked::asked_of;
 use crate::hint::{divider_hint, put_hint};
 use crate::label::put_label;
 use crate::messages::{
-    deep_message, first_byte, first_word, lexical_message, number_message, rule_message, text_from,
+    deep_message, first_byte, front_word, lexical_message, number_message, rule_message, text_from,
 };
 use crate::shown::{put_caret_line, put_shown_line};
-use crate::spot::{Spot, line_of, spot_of};
+use crate::spot::{Spot, line_of, spot_at};
 use crate::token_text::{syntax_message, text_before, token_place, token_text};
 use crate::words::{Said, put_words};
 use coati_top::{SourceFault, put, put_number, source_part};
@@ -65,7 +65,7 @@ fn number_text(alloc: Global, source: &[u8], at: u32) -> Result<Vec<u8>, OutOfMe
     requires within { at ≤ length source.now }
     ensures { IfOk result (λ text. IsExplained source.now (SourceFault.Number at) text.items) }
 {
-    let word = first_word(text_from(source, at));
+    let word = front_word(text_from(source, at));
     let said = Said {
         message: number_message(word),
         word,
@@ -120,7 +120,7 @@ fn rule_text(alloc: Global, source: &[u8], rule: Rule, at: u32) -> Result<Vec<u8
     requires small { length source.now ≤ 262144 }
     ensures { IfOk result (λ text. IsExplained source.now (SourceFault.Rule rule at) text.items) }
 {
-    let word = first_word(text_from(source, at));
+    let word = front_word(text_from(source, at));
     let said = Said {
         message: rule_message(rule, word),
         word,
@@ -141,9 +141,10 @@ fn explanation(
     requires small { length source.now ≤ 262144 }
     requires within { at ≤ length source.now }
     ensures { IfOk result (λ text. text.items
-        ≡ explanation source.now fault at said.entry.message said.entry.word.now said.entry.before.now) }
+        ≡ explanation source.now fault at said.entry.message said.entry.word.now
+        said.entry.before.now) }
 {
-    let here = spot_of(source, at);
+    let here = spot_at(source, at);
     let line = line_of(source, here.line);
     let mut out = Vec::new(alloc);
     put_heading(&mut out, here, fault, said)?;
@@ -163,7 +164,8 @@ fn put_heading(
     said: Said<'_>,
 ) -> Result<(), OutOfMemory>
     ensures { OnOk result (out.new.items ≡ out.old.items
-        ++ heading here (words_of said.entry.message said.entry.word.now said.entry.before.now) (label_of fault)) }
+        ++ heading here (wording said.entry.message said.entry.word.now said.entry.before.now)
+        (label_of fault)) }
 {
     put_number(out, b"line", here.line)?;
     put_number(out, b", column", here.column)?;

@@ -1,5 +1,5 @@
 ghost use Rattle.std.specs.Prelude.{◌≡◌, ◌≤◌, ◌<◌, length};
-ghost use Rattle.coati_explain.specs.Spot.{line_of, spot_of};
+ghost use Rattle.coati_explain.specs.Spot.{line_of, spot_at};
 
 use coati_text::lines;
 
@@ -11,10 +11,10 @@ pub struct Spot {
 }
 
 /// Where a place of the text lies.
-pub(crate) fn spot_of(text: &[u8], at: u32) -> Spot
+pub(crate) fn spot_at(text: &[u8], at: u32) -> Spot
     requires within { at ≤ length text.now }
     requires small { length text.now ≤ 262144 }
-    ensures spot { result ≡ spot_of text.now at }
+    ensures spot { result ≡ spot_at text.now at }
     ensures line { 0 < result.line }
     ensures column { 0 < result.column }
 {

@@ -5,7 +5,7 @@ ghost use Rattle.coati_top.specs.Divided.{second_part};
 ghost use Rattle.trace_text.specs.Fields.{is_quiet};
 ghost use Rattle.coati_explain.specs.Labels.{trace_label};
 ghost use Rattle.coati_explain.specs.Trace.{divider_line, first_said, line_heading, told_line, trace_explanation, trace_message};
-ghost use Rattle.coati_explain.specs.Words.{words_of};
+ghost use Rattle.coati_explain.specs.Words.{wording};
 
 use crate::asked::asked_of;
 use crate::hint::{put_hint, return_hint};
@@ -52,7 +52,7 @@ fn put_heading(
     fault: TraceFault,
 ) -> Result<(), OutOfMemory>
     ensures text { OnOk result (out.new.items ≡ out.old.items
-        ++ line_heading number (words_of message [] []) (trace_label fault)) }
+        ++ line_heading number (wording message [] []) (trace_label fault)) }
     ensures told { OnOk result (fault ≢ TraceFault.OutOfMemory) }
 {
     put_number(out, b"line", number)?;

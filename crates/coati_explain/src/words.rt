@@ -1,5 +1,5 @@
 ghost use Rattle.std.specs.Prelude.{◌≡◌, ◌++◌, OnOk};
-ghost use Rattle.coati_explain.specs.Words.{words_of};
+ghost use Rattle.coati_explain.specs.Words.{wording};
 
 use crate::message::Message;
 use crate::shown::{put_around, put_quoted};
@@ -17,7 +17,7 @@ pub(crate) struct Said<'a> {
 /// Appends the words of a message.
 pub(crate) fn put_words(out: &mut Vec<u8>, said: Said<'_>) -> Result<(), OutOfMemory>
     ensures { OnOk result (out.new.items ≡ out.old.items
-        ++ words_of said.entry.message said.entry.word.now said.entry.before.now) }
+        ++ wording said.entry.message said.entry.word.now said.entry.before.now) }
 {
     match said.message {
         Message::StrangeByte => put_around(out, b"no token starts with ", said.word, b""),
@@ -120,7 +120,7 @@ pub(crate) fn put_words(out: &mut Vec<u8>, said: Said<'_>) -> Result<(), OutOfMe
 /// Appends the words about a token with which no program goes on behind another.
 fn put_going_on(out: &mut Vec<u8>, said: Said<'_>) -> Result<(), OutOfMemory>
     ensures { OnOk result (out.new.items ≡ out.old.items
-        ++ words_of Message.NoGoingOn said.entry.word.now said.entry.before.now) }
+        ++ wording Message.NoGoingOn said.entry.word.now said.entry.before.now) }
 {
     put_around(out, b"no program goes on with ", said.word, b" behind ")?;
     put_quoted(out, said.before)

@@ -1,6 +1,6 @@
--- Why an undisturbed call succeeds on an input that is served, and tells what is wrong with a trace: each other status
--- has a cause that the input rules out.
-use Rattle.std.proofs.Common.{◌≡◌, ℕ, ◌+◌, ◌≤◌, List, [], ◌++◌, length, Some, None, refl, sym, ap, ◌∙◌, subst, inl, inr, append-nil, length-append, arith}
+-- Why an undisturbed call succeeds on an input that is served, and tells what is wrong with one that is refused: each
+-- other status has a cause that the input rules out.
+use Rattle.std.proofs.Common.{◌≡◌, ℕ, ◌+◌, ◌≤◌, Bool, true, false, List, ◌++◌, length, Some, None, refl, sym, ap, ◌∙◌, subst, inl, inr, append-nil, length-append, arith}
 use Rattle.std.specs.Prelude.{Option}
 use Rattle.task_lex.specs.Reading.{Tokens, FaultsAt}
 use Rattle.task_lex.specs.declared.fault.LexFault.{LexFault}
@@ -12,22 +12,25 @@ use Rattle.task_parse.specs.Faults.{DeepAt, FaultAt, Spells}
 use Rattle.task_parse.specs.Grammar.{Derives}
 use Rattle.task_parse.specs.Lexeme.{Lexeme}
 use Rattle.coati_board.specs.Board.{Whole}
-use Rattle.coati_word.specs.declared.mode.Mode.{Mode}
 use Rattle.coati_top.specs.declared.command.Command.{Command}
-use Rattle.coati_top.specs.declared.command.Command.TheVariants.{Check, Dump, Run}
+use Rattle.coati_top.specs.declared.command.Command.TheVariants.{Check, Dump, Run, Generate}
+use Rattle.coati_top.specs.declared.refusal.Refusal.{Refusal}
+use Rattle.coati_top.specs.declared.refusal.Refusal.TheVariants as refusal
 use Rattle.coati_top.specs.declared.source_fault.SourceFault.{SourceFault}
 use Rattle.coati_top.specs.declared.source_fault.SourceFault.TheVariants as source_fault
 use Rattle.task_check.specs.Accepted.{IsAccepted, IsRefusal}
 use Rattle.task_check.specs.declared.fault.CheckFault.TheVariants as check_fault
 use Rattle.task_check.specs.declared.rule.Rule.{Rule}
 use Rattle.coati_top.specs.declared.status.Status.{Status}
-use Rattle.coati_top.specs.declared.status.Status.TheVariants.{Ok, Usage, ReadFault, WriteFault, TooLarge, Refused, BadTrace, Differs, OutOfMemory}
-use Rattle.coati_top.specs.Answer.{Answers, AsksFor, HasFaultyTrace}
-use Rattle.coati_top.specs.Answer.Answers.{refused, measured, listed, untraced, ran}
-use Rattle.coati_top.specs.Call.{Answered, InputEdge, OutputEdge, Explains, input_limit}
-use Rattle.coati_top.specs.Complete.{Ends, EndsWith, IsUndisturbed, IsServed, LacksTrace}
+use Rattle.coati_top.specs.declared.status.Status.TheVariants.{Ok, Usage, ReadFault, WriteFault, TooLarge, OutOfMemory}
+use Rattle.coati_top.specs.Answer.{Answers, Serves}
+use Rattle.coati_top.specs.Answer.Answers.{refused, served}
+use Rattle.coati_top.specs.Call.{Answered, CommandEnded, HasRead, InputEdge, OutputEdge, input_limit}
+use Rattle.coati_top.specs.Complete.{CanServe, EndsByInput, EndsUnlessStarved, Gives, IsGiven, IsUndisturbed}
 use Rattle.coati_top.specs.Divided.{second_part, source_part}
+use Rattle.coati_top.specs.Refused.{HasFaultyTrace, Refuses, status_of}
 use Rattle.coati_top.specs.Source.{HasProgram, IsSourceFault}
+use Rattle.coati_top.specs.Words.{reads}
 use Rattle.serial_log.specs.declared.script.Script.{Script}
 use Rattle.trace_text.specs.Trace.{FirstFault, TraceText}
 use Rattle.trace_text.specs.declared.fault.TraceFault.{TraceFault}
@@ -92,84 +95,98 @@ module _ (one : HasOneAnswer) (bytes : List ℕ) (program : Program) (has : HasP
       one.traced program (second_part bytes) script fault trace
       (subst (λ (p : Program). FirstFault p (second_part bytes) fault) (sym (same_program faulty.program faulty.source.source)) faulty.first)
 
--- what is served is not refused
-no_refusal : HasOneAnswer → (command : Command) (bytes : List ℕ) → IsServed command bytes → (fault : SourceFault) → IsSourceFault bytes fault → ⊥
-no_refusal one Check bytes served fault cause = no_fault one bytes served.program served.source.source served.source.accepted fault cause
-no_refusal one Dump bytes served fault cause = no_fault one bytes served.program served.source.source served.source.accepted fault cause
-no_refusal one (Run mode) bytes served fault cause =
-    no_fault one bytes served.program served.asked.source.source served.asked.source.accepted fault cause
+-- an input that a command serves is refused for nothing
+never_both : HasOneAnswer → (command : Command) (input text : List ℕ) (board : Option Whole) → Serves command input text board
+    → (why : Refusal) → Refuses command input why → ⊥
+never_both one Check input text board shows (refusal.Source fault) cause = no_fault one input shows.program shows.source.source shows.source.accepted fault cause
+never_both one Check input text board shows (refusal.Trace fault) cause = cause
+never_both one Dump input text board shows (refusal.Source fault) cause = no_fault one input shows.program shows.source.source shows.source.accepted fault cause
+never_both one Dump input text board shows (refusal.Trace fault) cause = cause
+never_both one (Run mode) input text board shows (refusal.Source fault) cause =
+    no_fault one input shows.run.program shows.asked.source.source shows.asked.source.accepted fault cause
+never_both one (Run mode) input text board shows (refusal.Trace fault) cause =
+    no_faulty one input shows.run.program shows.asked.source.source shows.run.script shows.asked.trace fault cause
+never_both one (Generate rounds) input text board shows why cause = cause
 
--- nor does its trace have a fault
-no_fault_of_trace : HasOneAnswer → (command : Command) (bytes : List ℕ) → IsServed command bytes → (mode : Mode) → command ≡ Run mode
-    → (fault : TraceFault) → HasFaultyTrace bytes fault → ⊥
-no_fault_of_trace one Check bytes served mode is fault faulty = cc
-no_fault_of_trace one Dump bytes served mode is fault faulty = cc
-no_fault_of_trace one (Run other) bytes served mode is fault faulty =
-    no_faulty one bytes served.program served.asked.source.source served.script served.asked.trace fault faulty
+-- nor is one that it can serve
+no_refusal : HasOneAnswer → (command : Command) (bytes : List ℕ) → CanServe command bytes → (why : Refusal) → Refuses command bytes why → ⊥
+no_refusal one Check bytes can (refusal.Source fault) cause = no_fault one bytes can.program can.source.source can.source.accepted fault cause
+no_refusal one Check bytes can (refusal.Trace fault) cause = cause
+no_refusal one Dump bytes can (refusal.Source fault) cause = no_fault one bytes can.program can.source.source can.source.accepted fault cause
+no_refusal one Dump bytes can (refusal.Trace fault) cause = cause
+no_refusal one (Run mode) bytes can (refusal.Source fault) cause =
+    no_fault one bytes can.program can.asked.source.source can.asked.source.accepted fault cause
+no_refusal one (Run mode) bytes can (refusal.Trace fault) cause =
+    no_faulty one bytes can.program can.asked.source.source can.script can.asked.trace fault cause
+no_refusal one (Generate rounds) bytes can why cause = cause
 
--- the only status of what is served is Ok
-served_answer : HasOneAnswer → (command : Command) (bytes : List ℕ) → IsServed command bytes
+-- so its only status is Ok
+served_answer : HasOneAnswer → (command : Command) (bytes : List ℕ) → CanServe command bytes
     → (status : Status) (text : List ℕ) (board : Option Whole) → Answers command bytes status text board → status ≡ Ok
-served_answer one command bytes served status text board (refused fault cause is text_is none) = absurd (no_refusal one command bytes served fault cause)
-served_answer one command bytes served status text board (measured program by source is text_is none) = is
-served_answer one command bytes served status text board (listed program by source is text_is none) = is
-served_answer one command bytes served status text board (untraced mode fault by faulty is text_is none) =
-    absurd (no_fault_of_trace one command bytes served mode by fault faulty)
-served_answer one command bytes served status text board (ran mode run by made is text_is some) = is
+served_answer one command bytes can status text board (served shows is) = is
+served_answer one command bytes can status text board (refused why cause is text_is none) = absurd (no_refusal one command bytes can why cause)
 
--- an input without a trace is refused for no other reason, and not run
-untraced_refusal : HasOneAnswer → (command : Command) (bytes : List ℕ) → LacksTrace command bytes → (fault : SourceFault) → IsSourceFault bytes fault → ⊥
-untraced_refusal one Check bytes lacks fault cause = lacks
-untraced_refusal one Dump bytes lacks fault cause = lacks
-untraced_refusal one (Run mode) bytes lacks fault cause =
-    no_fault one bytes lacks.faulty.program lacks.faulty.source.source lacks.faulty.source.accepted fault cause
+-- a source at fault is no trace at fault, whose program is accepted
+not_faulty : HasOneAnswer → (bytes : List ℕ) (fault : SourceFault) (other : TraceFault) → IsSourceFault bytes fault → HasFaultyTrace bytes other → ⊥
+not_faulty one bytes fault other cause faulty = no_fault one bytes faulty.program faulty.source.source faulty.source.accepted fault cause
 
-untraced_run : HasOneAnswer → (command : Command) (bytes : List ℕ) → LacksTrace command bytes → (program : Program) (script : Script) → AsksFor bytes program script → ⊥
-untraced_run one Check bytes lacks program script asked = lacks
-untraced_run one Dump bytes lacks program script asked = lacks
-untraced_run one (Run mode) bytes lacks program script asked =
-    no_faulty one bytes program asked.source.source script asked.trace lacks.fault lacks.faulty
+-- an input is refused with one status
+one_status : HasOneAnswer → (command : Command) (bytes : List ℕ) (why other : Refusal) → Refuses command bytes why → Refuses command bytes other
+    → status_of other ≡ status_of why
+one_status one Check bytes (refusal.Source fault) (refusal.Source found) cause known = refl
+one_status one Check bytes (refusal.Source fault) (refusal.Trace found) cause known = absurd known
+one_status one Check bytes (refusal.Trace fault) other cause known = absurd cause
+one_status one Dump bytes (refusal.Source fault) (refusal.Source found) cause known = refl
+one_status one Dump bytes (refusal.Source fault) (refusal.Trace found) cause known = absurd known
+one_status one Dump bytes (refusal.Trace fault) other cause known = absurd cause
+one_status one (Run mode) bytes (refusal.Source fault) (refusal.Source found) cause known = refl
+one_status one (Run mode) bytes (refusal.Source fault) (refusal.Trace found) cause known = absurd (not_faulty one bytes fault found cause known)
+one_status one (Run mode) bytes (refusal.Trace fault) (refusal.Source found) cause known = absurd (not_faulty one bytes found fault known cause)
+one_status one (Run mode) bytes (refusal.Trace fault) (refusal.Trace found) cause known = refl
+one_status one (Generate rounds) bytes why other cause known = absurd cause
 
--- its only status is BadTrace
-untraced_answer : HasOneAnswer → (command : Command) (bytes : List ℕ) → LacksTrace command bytes
-    → (status : Status) (text : List ℕ) (board : Option Whole) → Answers command bytes status text board → status ≡ BadTrace
-untraced_answer one command bytes lacks status text board (refused fault cause is text_is none) = absurd (untraced_refusal one command bytes lacks fault cause)
-untraced_answer one command bytes lacks status text board (measured program by source is text_is none) =
-    absurd (subst (λ (c : Command). LacksTrace c bytes) by lacks)
-untraced_answer one command bytes lacks status text board (listed program by source is text_is none) =
-    absurd (subst (λ (c : Command). LacksTrace c bytes) by lacks)
-untraced_answer one command bytes lacks status text board (untraced mode fault by faulty is text_is none) = is
-untraced_answer one command bytes lacks status text board (ran mode run by made is text_is some) =
-    absurd (untraced_run one command bytes lacks run.program run.script made.asked)
+-- the only status of what is refused is that of its refusal
+refused_answer : HasOneAnswer → (command : Command) (bytes : List ℕ) (why : Refusal) → Refuses command bytes why
+    → (status : Status) (text : List ℕ) (board : Option Whole) → Answers command bytes status text board → status ≡ status_of why
+refused_answer one command bytes why cause status text board (served shows is) = absurd (never_both one command bytes text board shows why cause)
+refused_answer one command bytes why cause status text board (refused other known is text_is none) = is ∙ one_status one command bytes why other cause known
 
--- the answer of an undisturbed call is one to the bytes that its input told of
+-- what a command has read of an undisturbed input is what it was given
+same_bytes : (does : Bool) (input : InputEdge) (bytes given : List ℕ) → HasRead does input bytes → IsGiven does input given → bytes ≡ given
+same_bytes true input bytes given whole gives = whole_is_told input.old input.new input_limit bytes given gives.told whole
+same_bytes false input bytes given nothing empty = nothing ∙ sym empty
+
+-- so the answer of an undisturbed call is one to these bytes
 told_answer : (command : Command) (known : Status) (input : InputEdge) (output : OutputEdge) (board : Option Whole) (bytes : List ℕ) {Writing : List ℕ → Type 0}
-    → IsUndisturbed input output bytes → (why : Answered command known input board Writing) → Answers command bytes known why.text board
+    → IsUndisturbed command input output bytes → (why : Answered command known input board Writing) → Answers command bytes known why.text board
 told_answer command known input output board bytes calm why =
-    let same : why.bytes ≡ bytes = whole_is_told input.old input.new input_limit why.bytes bytes calm.told why.read in
+    let same : why.bytes ≡ bytes = same_bytes (reads command) input why.bytes bytes why.read calm.given in
     subst (λ (bs : List ℕ). Answers command bs known why.text board) same why.answers
+
+-- a command that reads is given what its input tells
+gives_all : (command : Command) (input : InputEdge) (output : OutputEdge) (bytes : List ℕ) → reads command ≡ true
+    → IsUndisturbed command input output bytes → Gives input bytes
+gives_all command input output bytes does calm = subst (λ (b : Bool). IsGiven b input bytes) does calm.given
 
 -- where each answer to the bytes has this status, so has an undisturbed call, by cases of how it ended
 completes_at : (wanted : Status) (command : Command) (status : Status) (input : InputEdge) (output : OutputEdge) (board : Option Whole) (bytes : List ℕ)
     → ((answered : Status) (text : List ℕ) → Answers command bytes answered text board → answered ≡ wanted)
-    → IsUndisturbed input output bytes → Explains command status input output board → EndsWith wanted status
+    → IsUndisturbed command input output bytes → CommandEnded command status input output board → EndsUnlessStarved wanted status
 completes_at wanted command Ok input output board bytes only calm why = inl (only Ok why.text (told_answer command Ok input output board bytes calm why))
 completes_at wanted command Usage input output board bytes only calm why = absurd why
-completes_at wanted command ReadFault input output board bytes only calm why = absurd (calm.read why.0)
+completes_at wanted command ReadFault input output board bytes only calm why = absurd ((gives_all command input output bytes why.0 calm).read why.1)
 completes_at wanted command WriteFault input output board bytes only calm why = absurd (calm.written why.written.failed)
 completes_at wanted command TooLarge input output board bytes only calm why =
-    absurd (gives_no_more input.old input.new bytes calm.told calm.fits why.0)
-completes_at wanted command Refused input output board bytes only calm why =
-    inl (only Refused why.text (told_answer command Refused input output board bytes calm why))
-completes_at wanted command BadTrace input output board bytes only calm why =
-    inl (only BadTrace why.text (told_answer command BadTrace input output board bytes calm why))
-completes_at wanted command Differs input output board bytes only calm why = absurd why
+    let gives = gives_all command input output bytes why.0 calm in
+    absurd (gives_no_more input.old input.new bytes gives.told gives.fits why.1)
 completes_at wanted command OutOfMemory input output board bytes only calm why = inr refl
+completes_at wanted command told input output board bytes only calm why =
+    inl (only told why.text (told_answer command told input output board bytes calm why))
 
 -- how an undisturbed call ends, by what its input is
-pub completes_explained : HasOneAnswer → (command : Command) (status : Status) (input : InputEdge) (output : OutputEdge) (board : Option Whole)
-    → Explains command status input output board → (bytes : List ℕ) → IsUndisturbed input output bytes → Ends command status bytes
-completes_explained one command status input output board why bytes calm = record {
-  served = λ served. completes_at Ok command status input output board bytes (λ answered text. served_answer one command bytes served answered text board) calm why;
-  untraced = λ lacks. completes_at BadTrace command status input output board bytes (λ answered text. untraced_answer one command bytes lacks answered text board) calm why;
+pub completes_ended : HasOneAnswer → (command : Command) (status : Status) (input : InputEdge) (output : OutputEdge) (board : Option Whole)
+    → CommandEnded command status input output board → (bytes : List ℕ) → IsUndisturbed command input output bytes → EndsByInput command status bytes
+completes_ended one command status input output board why bytes calm = record {
+  served = λ can. completes_at Ok command status input output board bytes (λ answered text. served_answer one command bytes can answered text board) calm why;
+  refused = λ found cause. completes_at (status_of found) command status input output board bytes (λ answered text. refused_answer one command bytes found cause answered text board) calm why;
 }

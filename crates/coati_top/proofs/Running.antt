@@ -1,18 +1,19 @@
 -- A board that was opened and made roomier can run, and how its run ends.
-use Rattle.std.proofs.Common.{◌≡◌, ◌∙◌, ℕ, ◌+◌, ◌*◌, ◌≤◌, List, length, ap, refl, subst, sym}
+use Rattle.std.proofs.Common.{◌≡◌, ◌∙◌, ℕ, ◌+◌, ◌*◌, ◌≤◌, List, [], ◌∷◌, ◌++◌, length, ap, refl, subst, sym}
 use Rattle.coati_word.specs.declared.mode.Mode.{Mode}
 use Rattle.nv_memory.specs.Seats.{IsMemory}
 use Rattle.nv_memory.specs.State.{state}
 use Rattle.serial_log.specs.declared.end.End.{End}
 use Rattle.serial_log.specs.declared.end.End.TheVariants.{Idle, Limit}
+use Rattle.serial_log.specs.declared.mark.MarkKind.TheVariants as kind
 use Rattle.serial_log.specs.declared.script.Script.{Script}
 use Rattle.task_cost.specs.Limits.{handler_bound}
 use Rattle.task_syntax.specs.declared.program.Program.{Program}
 use Rattle.coati_device.specs.declared.device.Device.{Device}
 use Rattle.coati_device.specs.Laws.{IsFresh}
 use Rattle.coati_board.specs.Board.{IsOpened, IsRoomier, IsSameRun, Whole}
-use Rattle.executor.specs.Run.{CanRun, HasMadeAllSteps}
-use Rattle.coati_top.specs.Runs.{HasRaisedAll, IsEndedBy}
+use Rattle.executor.specs.Run.{CanRun, HasMadeAllSteps, HasRun}
+use Rattle.coati_top.specs.Runs.{HasRaisedAll, IsClosedBy, IsEndedBy}
 
 -- a device with more room is still before its first step
 pub fresh_with_room : (program : Program) (mode : Mode) (periods : List ℕ) (old new : Device) → IsFresh program mode periods old
@@ -29,6 +30,8 @@ fresh_with_room program mode periods old new fresh roomier = record {
   readings = roomier.readings ∙ fresh.readings;
   attempt = roomier.attempt ∙ fresh.attempt;
   unit = roomier.unit ∙ fresh.unit;
+  events = roomier.events ∙ fresh.events;
+  made = roomier.made ∙ fresh.made;
   finished = ap (λ (d : Device). d.finished) roomier.same ∙ fresh.finished;
   accepted = ap (λ (d : Device). d.accepted) roomier.same ∙ fresh.accepted;
 }
@@ -56,6 +59,16 @@ can_run program mode script board opened room = record {
     cursors = rw opened.script_is opened.cursors;
   };
   room = rw (opened.program_is, opened.script_is) room;
+}
+
+-- its End mark is the last, and the only one
+pub closed_by : (start run : Whole) (end : End) → HasRun start end run → IsClosedBy end run
+closed_by start run end ran = record {
+  before = ran.last.device.history.marks;
+  last = subst (λ (board : Whole). board.device.history.marks
+      ≡ ran.last.device.history.marks ++ record { at = board.device.clock; kind = kind.End end } ∷ [])
+      (sym ran.closed) refl;
+  only = ran.still_open;
 }
 
 -- what is so at the end that it came to, from what is so at each

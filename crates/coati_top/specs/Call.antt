@@ -1,14 +1,15 @@
 -- What a call of the program did at its two ends, and why it ended with its status.
-use Rattle.std.specs.Prelude.{◌≡◌, ◌⊎◌, ℕ, ◌+◌, ◌<◌, ◌≤◌, List, length, take, Option, Some, None}
+use Rattle.std.specs.Prelude.{◌≡◌, ◌⊎◌, ℕ, ◌+◌, ◌<◌, ◌≤◌, Bool, true, false, List, [], length, take, Option, Some, None}
 use Rattle.std.specs.Io.KnownBytes.{Appends}
 use Rattle.coati_io.specs.Causes.{Rose}
 use Rattle.coati_io.specs.Ends.{ReadsWhole, ConsumesExactly}
 use Rattle.coati_top.specs.declared.command.Command.{Command}
 use Rattle.coati_top.specs.declared.status.Status.{Status}
-use Rattle.coati_top.specs.declared.status.Status.TheVariants.{Ok, Usage, ReadFault, WriteFault, TooLarge, Refused, BadTrace, Differs, OutOfMemory}
+use Rattle.coati_top.specs.declared.status.Status.TheVariants.{Ok, Usage, ReadFault, WriteFault, TooLarge, OutOfMemory}
 use Rattle.coati_board.specs.Board.{Whole}
 use Rattle.coati_top.specs.Answer.{Answers}
 use Rattle.coati_top.specs.Refusal.{usage_text, too_large_text}
+use Rattle.coati_top.specs.Words.{reads}
 
 -- the input of a call: the bytes still to come, where it tells of them, and its count of faults,
 -- before and after
@@ -74,49 +75,58 @@ pub record WritesAll (output : OutputEdge) (text : List ℕ) : Type 0 where
   pub steady : length text ≤ output.room → output.after ≡ output.before
 
 -- the output failed, which it does only where there is no room for all of the text, and a front of
--- the text was written
+-- the text was written, and not all of it
 pub record WritesFront (output : OutputEdge) (text : List ℕ) : Type 0 where
   pub failed : WritingFailed output
   pub short : output.room < length text
   pub sent : ℕ
+  pub some_left : sent < length text
   pub front : Appends output.old output.new (take sent text)
 
 -- all of the text was written, or the output failed and a front of it was
-abbrev pub Writes : OutputEdge → List ℕ → Type 0
-Writes output text = WritesAll output text ⊎ WritesFront output text
+abbrev pub WritesOrFails : OutputEdge → List ℕ → Type 0
+WritesOrFails output text = WritesAll output text ⊎ WritesFront output text
 
--- the input was read to its end and is within the limit, the command's answer to it has this
--- status and this board, and its text was written in this way
+-- a command that reads has read these bytes, which are all and within the limit; another has none
+abbrev pub HasRead : Bool → InputEdge → List ℕ → Type 0
+HasRead true input bytes = ReadsWhole input.old input.new input_limit bytes
+HasRead false input bytes = bytes ≡ []
+
+-- the command's answer to what it has read has this status and this board, and its text was
+-- written in this way
 pub record Answered (command : Command) (status : Status) (input : InputEdge)
     (board : Option Whole) (Writing : List ℕ → Type 0) : Type 0 where
   pub bytes : List ℕ
-  pub read : ReadsWhole input.old input.new input_limit bytes
+  pub read : HasRead (reads command) input bytes
   pub text : List ℕ
   pub answers : Answers command bytes status text board
   pub written : Writing text
 
 -- why a command ended with this status
-abbrev pub Explains : Command → Status → InputEdge → OutputEdge → Option Whole → Type 0
-Explains command Ok input output board = Answered command Ok input board (WritesAll output)
-Explains command Usage input output board = ⊥
-Explains command ReadFault input output board = ReadingFailed input × WritesNothing output
-    × (board ≡ None)
-Explains command WriteFault input output board =
+abbrev pub CommandEnded : Command → Status → InputEdge → OutputEdge → Option Whole → Type 0
+CommandEnded command Ok input output board = Answered command Ok input board (WritesAll output)
+CommandEnded command Usage input output board = ⊥
+CommandEnded command ReadFault input output board =
+    (reads command ≡ true) × ReadingFailed input × WritesNothing output × (board ≡ None)
+CommandEnded command WriteFault input output board =
     Answered command Ok input board (WritesFront output)
-Explains command TooLarge input output board =
-    ConsumesExactly input.old input.new (input_limit + 1) × Writes output too_large_text
-    × (board ≡ None)
-Explains command Refused input output board = Answered command Refused input board (Writes output)
-Explains command BadTrace input output board =
-    Answered command BadTrace input board (Writes output)
-Explains command Differs input output board = ⊥
-Explains command OutOfMemory input output board = WritesNothing output × (board ≡ None)
+CommandEnded command TooLarge input output board =
+    (reads command ≡ true) × ConsumesExactly input.old input.new (input_limit + 1)
+    × WritesOrFails output too_large_text × (board ≡ None)
+CommandEnded command OutOfMemory input output board = WritesNothing output × (board ≡ None)
+CommandEnded command status input output board =
+    Answered command status input board (WritesOrFails output)
 
 -- why a call ended with this status: the words name no command, or the command's own reason
-abbrev pub Explained : Option Command → Status → InputEdge → OutputEdge → Option Whole → Type 0
-Explained None status input output board = (status ≡ Usage) × ReadsNothing input
-    × Writes output usage_text × (board ≡ None)
-Explained (Some command) status input output board = Explains command status input output board
+abbrev pub CallEnded : Option Command → Status → InputEdge → OutputEdge → Option Whole → Type 0
+CallEnded None status input output board =
+    (status ≡ Usage) × WritesOrFails output usage_text × (board ≡ None)
+CallEnded (Some command) status input output board = CommandEnded command status input output board
+
+-- words that name no command leave the input as it was, and so does a command that does not read
+abbrev pub LeavesInput : Option Command → InputEdge → Type 0
+LeavesInput None input = ReadsNothing input
+LeavesInput (Some command) input = reads command ≡ false → ReadsNothing input
 
 -- what a status becomes where its text was not written whole
 abbrev pub after_fault : Status → Status
@@ -130,10 +140,10 @@ Delivers status result output text =
     ⊎ ((result ≡ after_fault status) × WritesFront output text)
 
 -- a command's answer to these bytes was delivered, or memory ran out before anything was written
-pub data AnswersTo (command : Command) (bytes : List ℕ) (status : Status) (output : OutputEdge)
-    (board : Option Whole) : Type 0 where
+pub data DeliversAnswer (command : Command) (bytes : List ℕ) (status : Status)
+    (output : OutputEdge) (board : Option Whole) : Type 0 where
   delivered : (before : Status) (text : List ℕ) → Answers command bytes before text board →
       Delivers before status output text
-      → AnswersTo command bytes status output board
+      → DeliversAnswer command bytes status output board
   starved : status ≡ OutOfMemory → WritesNothing output → board ≡ None →
-      AnswersTo command bytes status output board
+      DeliversAnswer command bytes status output board

@@ -10,6 +10,7 @@ pub mod Marks
 pub mod Names
 pub mod Printed
 pub mod Refusal
+pub mod Refused
 pub mod Runs
 pub mod Source
 pub mod SourceFaults

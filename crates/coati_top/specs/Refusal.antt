@@ -1,4 +1,4 @@
--- What is said of an input that is not served, one line each.
+-- What is said of a source that is refused, of other words and of a great input, one line each.
 use Rattle.std.specs.Prelude.{ℕ, List, ◌++◌, codes, decimal}
 use Rattle.task_check.specs.Accepted.{number_of}
 use Rattle.task_check.specs.declared.rule.Rule.{Rule}
@@ -34,8 +34,8 @@ fault_text (fault.Deep token) = word_and_number (codes "deep") token
 fault_text (fault.Rule rule at) = word_and_number (word_and_number (codes "rule") (number_of rule)
     ++ codes " " ++ rule_text rule ++ codes " at") at
 
-abbrev pub refusal_text : SourceFault → List ℕ
-refusal_text fault = codes "refused " ++ fault_text fault ++ codes "\n"
+abbrev pub source_refusal : SourceFault → List ℕ
+source_refusal fault = codes "refused " ++ fault_text fault ++ codes "\n"
 
 abbrev pub usage_text : List ℕ
 usage_text = codes "usage: coati check | dump | run MODE | live MODE | replay MODE | gen N\n"

@@ -1,11 +1,14 @@
 -- A run: from the board that was opened to its end by the script, where it is ended.
-use Rattle.std.specs.Prelude.{◌≡◌, [], Some}
+use Rattle.std.specs.Prelude.{◌≡◌, List, [], ◌∷◌, ◌++◌, None}
 use Rattle.coati_word.specs.declared.mode.Mode.{Mode}
+use Rattle.coati_word.specs.declared.mode.Mode.TheVariants.{Buffi, Split}
 use Rattle.nv_memory.specs.State.{state}
 use Rattle.serial_log.specs.declared.end.End.{End}
 use Rattle.serial_log.specs.declared.end.End.TheVariants.{Idle, Limit}
+use Rattle.serial_log.specs.declared.mark.Mark.{Mark}
+use Rattle.serial_log.specs.declared.mark.MarkKind.TheVariants as kind
 use Rattle.serial_log.specs.Legal.{IsLegalHistory}
-use Rattle.serial_log.specs.Progresses.{ServesBetweenUnits}
+use Rattle.serial_log.specs.Progresses.{ServesAborts, ServesAtOnce, ServesBetweenUnits}
 use Rattle.serial_log.specs.Scripted.{AreBootsAtPeriods}
 use Rattle.serial_log.specs.SerialRun.{SerialRun}
 use Rattle.serial_log.specs.Standing.{standing_of}
@@ -23,16 +26,24 @@ abbrev pub IsEndedBy : End → Whole → Type 0
 IsEndedBy Idle run = HasRaisedAll run
 IsEndedBy Limit run = HasMadeAllSteps run
 
+-- the End mark stands behind all other marks, at the clock, and none of these is one
+pub record IsClosedBy (end : End) (run : Whole) : Type 0 where
+  pub before : List Mark
+  pub last : run.device.history.marks
+      ≡ before ++ record { at = run.device.clock; kind = kind.End end } ∷ []
+  pub only : end_of before ≡ None
+
 -- The board of a run in a mode: it was opened for its program and its script, ran to its end, and
--- was ended there. Each posting was raised in its turn. The history is legal, and so a serial run
--- of the program; memory stands for where the history leads, what is held with it; the boots are
--- at the ends of the power periods; and events were served between units.
+-- was ended there, with one End mark, the last. Each posting was raised in its turn. The history
+-- is legal, and so a serial run of the program; memory stands for where the history leads, what is
+-- held with it; the boots are at the ends of the power periods; and events were served between
+-- units.
 pub record IsRun (mode : Mode) (run : Whole) : Type 0 where
   pub start : Whole
   pub opened : IsOpened run.program mode run.script start
   pub end : End
   pub ran : HasRun start end run
-  pub told : end_of run.device.history.marks ≡ Some end
+  pub closed : IsClosedBy end run
   pub ended : IsEndedBy end run
   pub in_turn : ArePostingsInTurn run.script.postings run.device.history.marks
   pub legal : IsLegalHistory (terms_of run.program mode) run.device.history
@@ -41,4 +52,6 @@ pub record IsRun (mode : Mode) (run : Whole) : Type 0 where
       (standing_of run.program run.device.history.marks)
   pub boots : AreBootsAtPeriods run.program run.script.power run.device.clock
       run.device.history.marks
-  pub turns : ServesBetweenUnits run.program run.device.history.marks
+  pub split : mode ≡ Split → ServesBetweenUnits run.program run.device.history.marks
+  pub buffi : mode ≡ Buffi → ServesAtOnce run.program run.device.history.marks
+  pub aborts : ServesAborts run.device.history.marks

@@ -14,29 +14,29 @@ use Rattle.coati_top.specs.declared.source_fault.NoProgram.TheVariants as no_pro
 use Rattle.coati_top.specs.Source.{IsSourceFault}
 
 -- the input's fault, or want of memory
-abbrev pub Explains : List ℕ → NoProgram → Type 0
-Explains input (no_program.Fault source_fault) = IsSourceFault input source_fault
-Explains input no_program.OutOfMemory = Unit {0}
+abbrev pub LacksProgram : List ℕ → NoProgram → Type 0
+LacksProgram input (no_program.Fault source_fault) = IsSourceFault input source_fault
+LacksProgram input no_program.OutOfMemory = Unit {0}
 
 -- of a source that has no tokens
-abbrev pub ExplainsBytes : List ℕ → NoProgram → Type 0
-ExplainsBytes source (no_program.Fault (fault.Lexical at)) = FaultsAt source (BadByte at)
-ExplainsBytes source (no_program.Fault (fault.Number at)) = FaultsAt source (BadNumber at)
-ExplainsBytes source (no_program.Fault _) = ⊥
-ExplainsBytes source no_program.OutOfMemory = Unit {0}
+abbrev pub LacksTokens : List ℕ → NoProgram → Type 0
+LacksTokens source (no_program.Fault (fault.Lexical at)) = FaultsAt source (BadByte at)
+LacksTokens source (no_program.Fault (fault.Number at)) = FaultsAt source (BadNumber at)
+LacksTokens source (no_program.Fault _) = ⊥
+LacksTokens source no_program.OutOfMemory = Unit {0}
 
 -- of tokens that spell no program
-abbrev pub ExplainsTokens : List ℕ → List Token → NoProgram → Type 0
-ExplainsTokens source tokens (no_program.Fault (fault.Syntax token)) =
+abbrev pub LacksSpelling : List ℕ → List Token → NoProgram → Type 0
+LacksSpelling source tokens (no_program.Fault (fault.Syntax token)) =
     FaultAt (lexemes source tokens) token
-ExplainsTokens source tokens (no_program.Fault (fault.Deep token)) =
+LacksSpelling source tokens (no_program.Fault (fault.Deep token)) =
     DeepAt (lexemes source tokens) token
-ExplainsTokens source tokens (no_program.Fault _) = ⊥
-ExplainsTokens source tokens no_program.OutOfMemory = Unit {0}
+LacksSpelling source tokens (no_program.Fault _) = ⊥
+LacksSpelling source tokens no_program.OutOfMemory = Unit {0}
 
 -- of a program that is not accepted
-abbrev pub ExplainsProgram : Program → NoProgram → Type 0
-ExplainsProgram program (no_program.Fault (fault.Rule rule at)) =
+abbrev pub LacksAcceptance : Program → NoProgram → Type 0
+LacksAcceptance program (no_program.Fault (fault.Rule rule at)) =
     IsRefusal program (check_fault.Rule rule at)
-ExplainsProgram program (no_program.Fault _) = ⊥
-ExplainsProgram program no_program.OutOfMemory = Unit {0}
+LacksAcceptance program (no_program.Fault _) = ⊥
+LacksAcceptance program no_program.OutOfMemory = Unit {0}

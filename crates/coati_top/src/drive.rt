@@ -1,7 +1,7 @@
 //! Runs.
 
 ghost use Rattle.std.specs.Prelude.{◌≡◌, ◌+◌, ◌*◌, ◌≤◌, length, IfOk};
-ghost use Rattle.coati_board.specs.Served.{IsScript, IsServed};
+ghost use Rattle.coati_board.specs.Served.{IsScript};
 ghost use Rattle.task_cost.specs.Limits.{handler_bound};
 ghost use Rattle.coati_top.specs.Runs.{IsRun};
 
@@ -22,7 +22,6 @@ pub(crate) fn run_script(
     mode: Mode,
     script: Script,
 ) -> Result<Board, OutOfMemory>
-    requires served { IsServed mode }
     requires script { IsScript checked script }
     requires steps { script.limit + handler_bound checked * length script.postings ≤ 4000000 }
     ensures program { IfOk result (λ run. run.program ≡ checked) }

@@ -2,7 +2,7 @@
 
 ghost use Rattle.std.specs.Prelude.{◌≡◌, ◌≤◌, ◌<◌, ◌^◌, length, IfOk, IfErr, OnOk};
 ghost use Rattle.coati_top.specs.Source.{HasAccepted};
-ghost use Rattle.coati_top.specs.SourceFaults.{Explains, ExplainsBytes, ExplainsProgram, ExplainsTokens};
+ghost use Rattle.coati_top.specs.SourceFaults.{LacksProgram, LacksTokens, LacksAcceptance, LacksSpelling};
 ghost use Rattle.task_check.specs.Accepted.{IsAccepted};
 ghost use Rattle.task_check.specs.WellFormed.{IsWellFormed};
 ghost use Rattle.task_lex.specs.Reading.{Tokens};
@@ -21,7 +21,7 @@ use task_syntax::Program;
 pub fn read_source(alloc: Global, input: &[u8]) -> Result<Checked, NoProgram>
     requires { length input.now ≤ 262144 }
     ensures program { IfOk result (HasAccepted input.now) }
-    ensures fault { IfErr result (Explains input.now) }
+    ensures fault { IfErr result (LacksProgram input.now) }
 {
     let source = source_part(input);
     let tokens = tokens_of(alloc, source)?;
@@ -35,7 +35,7 @@ fn tokens_of(alloc: Global, source: &[u8]) -> Result<Vec<Token>, NoProgram>
     requires { length source.now ≤ 262144 }
     ensures tokens { IfOk result (λ tokens. Tokens source.now tokens.items) }
     ensures few { IfOk result (λ tokens. length tokens.items ≤ length source.now) }
-    ensures fault { IfErr result (ExplainsBytes source.now) }
+    ensures fault { IfErr result (LacksTokens source.now) }
 {
     match lex(alloc, source) {
         Ok(tokens) => Ok(tokens),
@@ -51,7 +51,7 @@ fn program_of(alloc: Global, source: &[u8], tokens: &[Token]) -> Result<Program,
     requires few { length tokens.now < 2 ^ 31 }
     ensures spelled { IfOk result (Spells source.now tokens.now) }
     ensures well_formed { IfOk result IsWellFormed }
-    ensures fault { IfErr result (ExplainsTokens source.now tokens.now) }
+    ensures fault { IfErr result (LacksSpelling source.now tokens.now) }
 {
     spelled_programs_are_well_formed();
     match parse(alloc, source, tokens) {
@@ -67,7 +67,7 @@ fn checked(alloc: Global, program: Program) -> Result<Checked, NoProgram>
     requires { IsWellFormed program }
     ensures same { IfOk result (λ checked. checked ≡ program) }
     ensures accepted { OnOk result (IsAccepted program) }
-    ensures fault { IfErr result (ExplainsProgram program) }
+    ensures fault { IfErr result (LacksAcceptance program) }
 {
     match check(alloc, program) {
         Ok(checked) => Ok(checked),

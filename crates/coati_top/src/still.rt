@@ -1,9 +1,9 @@
 ghost use Rattle.std.specs.Prelude.{◌≡◌, ◌≤◌, length, map, string_bytes, None, Some};
-ghost use Rattle.coati_top.specs.Call.{input_edge, output_edge, after_fault, Explained, Explains, Delivers, AnswersTo};
+ghost use Rattle.coati_top.specs.Call.{input_edge, output_edge, after_fault, CallEnded, CommandEnded, Delivers, DeliversAnswer, LeavesInput};
 ghost use Rattle.coati_top.specs.Complete.{Completes, IsSteadyInput};
-ghost use Rattle.coati_top.specs.Words.{HasServedMode, command_of};
+ghost use Rattle.coati_top.specs.Words.{IsServable, command_of};
 
-use crate::answer::{Reply, answer_to};
+use crate::answer::{Reply, reply_to};
 use crate::{Command, Done, Status, command_of};
 use coati_io::{ReadEnd, Sink, Source, read_all, write_all};
 use coati_word::limits::INPUT_BYTES;
@@ -20,9 +20,11 @@ pub fn coati_still<S: Source, K: Sink>(
     input: &mut S,
     output: &mut K,
 ) -> Done
-    ensures explained { Explained (command_of (map string_bytes words.now)) result.status
+    ensures ended { CallEnded (command_of (map string_bytes words.now)) result.status
         (input_edge S.left S.faults input.old input.new)
         (output_edge K.taken K.faults K.spare output.old output.new) result.board }
+    ensures unread { LeavesInput (command_of (map string_bytes words.now))
+        (input_edge S.left S.faults input.old input.new) }
     ensures complete { Completes (command_of (map string_bytes words.now)) result.status
         (input_edge S.left S.faults input.old input.new)
         (output_edge K.taken K.faults K.spare output.old output.new) }
@@ -47,13 +49,18 @@ const USAGE: &[u8] = b"usage: coati check | dump | run MODE | live MODE | replay
 
 /// Does what a command says.
 fn run<S: Source, K: Sink>(alloc: Global, command: Command, input: &mut S, output: &mut K) -> Done
-    requires { HasServedMode command }
-    ensures explained { Explains command result.status
+    requires { IsServable command }
+    ensures ended { CommandEnded command result.status
         (input_edge S.left S.faults input.old input.new)
         (output_edge K.taken K.faults K.spare output.old output.new) result.board }
+    ensures unread { LeavesInput (Some command)
+        (input_edge S.left S.faults input.old input.new) }
     ensures steady { S.sound input.old → IsSteadyInput result.status
         (input_edge S.left S.faults input.old input.new) }
 {
+    if !command.reads() {
+        return answer(alloc, command, &[], output);
+    }
     match read_all(alloc, input, INPUT_BYTES) {
         Ok(bytes) => answer(alloc, command, &bytes, output),
         Err(ReadEnd::Fault) => without_board(Status::ReadFault),
@@ -64,14 +71,14 @@ fn run<S: Source, K: Sink>(alloc: Global, command: Command, input: &mut S, outpu
     }
 }
 
-/// Answers to all that was read.
+/// Answers to what was read.
 fn answer<K: Sink>(alloc: Global, command: Command, bytes: &[u8], output: &mut K) -> Done
     requires small { length bytes.now ≤ 262144 }
-    requires mode { HasServedMode command }
-    ensures { AnswersTo command bytes.now result.status
+    requires servable { IsServable command }
+    ensures { DeliversAnswer command bytes.now result.status
         (output_edge K.taken K.faults K.spare output.old output.new) result.board }
 {
-    match answer_to(alloc, command, bytes) {
+    match reply_to(alloc, command, bytes) {
         Ok(
             Reply {
                 status,

@@ -1,4 +1,4 @@
-ghost use Rattle.std.specs.Prelude.{◌≡◌, ◌≢◌, IfOk, OnOk};
+ghost use Rattle.std.specs.Prelude.{◌≡◌, IfOk};
 ghost use Rattle.coati_top.specs.TraceRefusal.{line_refusal, trace_refusal};
 
 use crate::output::{put, put_number};
@@ -8,8 +8,7 @@ use trace_text::TraceFault;
 
 /// The line that says what is wrong with a trace.
 pub(crate) fn trace_refusal(alloc: Global, fault: TraceFault) -> Result<Vec<u8>, OutOfMemory>
-    ensures text { IfOk result (λ text. text.items ≡ trace_refusal fault) }
-    ensures told { OnOk result (fault ≢ TraceFault.OutOfMemory) }
+    ensures { IfOk result (λ text. text.items ≡ trace_refusal fault) }
 {
     match fault {
         TraceFault::BadLine(number) => line_refusal(alloc, number, b"bad"),

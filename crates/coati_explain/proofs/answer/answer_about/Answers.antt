@@ -1,5 +1,5 @@
 use Rattle.std.proofs.Common.{◌≡◌, ◌++◌, ◌∙◌, ℕ, List, [], refl, sym}
-use Rattle.coati_explain.specs.Answer.Answers.{accepted}
+use Rattle.coati_explain.specs.Answer.IsExplanation.{accepted}
 use Rattle.coati_explain.proofs.answer.answer_about.Goals as goal
 
 -- a text in front of which nothing stands

@@ -1,5 +1,5 @@
 use Rattle.std.proofs.Common.{refl}
-use Rattle.coati_explain.specs.Answer.Answers.{refused}
+use Rattle.coati_explain.specs.Answer.IsExplanation.{refused}
 use Rattle.coati_explain.proofs.answer.refused.Goals as goal
 
 pub returns : goal.returns

@@ -1,5 +1,5 @@
 use Rattle.std.proofs.Common.{◌≡◌, ◌++◌, ℕ, List, [], refl}
-use Rattle.coati_explain.specs.Answer.Answers.{traced}
+use Rattle.coati_explain.specs.Answer.IsExplanation.{traced}
 use Rattle.coati_explain.proofs.answer.traced.Goals as goal
 
 -- one text behind another

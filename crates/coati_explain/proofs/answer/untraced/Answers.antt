@@ -5,7 +5,7 @@ use Rattle.trace_text.specs.Trace.{FirstFault}
 use Rattle.trace_text.specs.declared.fault.TraceFault.{TraceFault}
 use Rattle.trace_text.specs.declared.fault.TraceFault.TheVariants as fault
 use Rattle.coati_top.specs.Divided.{second_part, source_length}
-use Rattle.coati_explain.specs.Answer.Answers.{untraced}
+use Rattle.coati_explain.specs.Answer.IsExplanation.{untraced}
 use Rattle.coati_explain.proofs.TraceLines.{told_line-within}
 use Rattle.coati_explain.proofs.answer.untraced.Goals as goal
 

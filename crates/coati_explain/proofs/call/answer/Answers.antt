@@ -1,4 +1,4 @@
-use Rattle.coati_explain.specs.Call.AnswersTo.{delivered}
+use Rattle.coati_explain.specs.Call.DeliversExplanation.{delivered}
 use Rattle.coati_explain.proofs.call.answer.Goals as goal
 
 pub returns-in-Ok : goal.returns-in-Ok

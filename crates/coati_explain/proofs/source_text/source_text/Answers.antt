@@ -1,4 +1,4 @@
-use Rattle.std.proofs.Common.{◌≡◌, ◌≤◌, ℕ, List, length, sym, subst}
+use Rattle.std.proofs.Common.{◌≡◌, ◌≤◌, ℕ, List, length, subst}
 use Rattle.task_lex.specs.Reading.{IsBadByte}
 use Rattle.task_lex.specs.Token.{IsBadNumber}
 use Rattle.coati_top.specs.Divided.{source_part}

@@ -1,4 +1,4 @@
-use Rattle.std.proofs.Common.{◌≡◌, ◌≤◌}
+use Rattle.std.proofs.Common.{◌≡◌}
 use Rattle.coati_explain.specs.Spot.{line_among, line_of}
 use Rattle.coati_explain.proofs.spot.line_of.Given as goal
 

@@ -5,7 +5,7 @@ use Rattle.serial_log.specs.Legal.{IsLegalHistory}
 use Rattle.task_syntax.specs.declared.program.Program.{Program}
 use Rattle.coati_board.specs.Board.{IsOpened, terms_of}
 use Rattle.executor.specs.InTurn.{ArePostingsInTurn, turns_of}
-use Rattle.coati_top.proofs.Running.{can_run, ended_by, opened_with_room}
+use Rattle.coati_top.proofs.Running.{can_run, closed_by, ended_by, opened_with_room}
 use Rattle.coati_top.proofs.drive.run_script.Goals as goal
 
 pub run_scripted-end-requires : goal.run_scripted-end-requires
@@ -38,7 +38,7 @@ returns-clause-run c =
           (subst (λ (s : Script). IsOpened c.args.checked c.args.mode s start) (sym script) first);
       end = end;
       ran = ran.exact;
-      told = ran.closed;
+      closed = closed_by start run end ran.exact;
       ended = ended_by end run
           (λ is. subst (λ (s : Script). (turns_of s.postings run.device.history.marks).left ≡ []) (sym ran.run.script) (ran.all is))
           ran.limit;
@@ -47,5 +47,7 @@ returns-clause-run c =
       serial = (c.legal_histories_keep_each_fact.ensures (terms_of run.program run.mode) run.device.history told.legal).serial;
       stands = told.stands;
       boots = told.boots;
-      turns = told.turns;
+      split = λ is. told.split (mode ∙ is);
+      buffi = λ is. told.buffi (mode ∙ is);
+      aborts = told.aborts;
     }

@@ -1,4 +1,4 @@
-use Rattle.coati_top.specs.Call.AnswersTo.{delivered}
+use Rattle.coati_top.specs.Call.DeliversAnswer.{delivered}
 use Rattle.coati_top.proofs.still.answer.Goals as goal
 
 pub returns-in-Ok : goal.returns-in-Ok

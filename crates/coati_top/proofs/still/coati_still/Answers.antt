@@ -1,7 +1,7 @@
 use Rattle.std.proofs.Common.{◌≡◌, map, string_bytes, Some, sym, ◌∙◌}
 use Rattle.coati_top.specs.Call.{input_edge, output_edge}
 use Rattle.coati_top.specs.Words.{command_of}
-use Rattle.coati_top.proofs.Completing.{HasOneAnswer, completes_explained}
+use Rattle.coati_top.proofs.Completing.{HasOneAnswer, completes_ended}
 use Rattle.coati_top.proofs.still.coati_still.Goals as goal
 
 pub returns-in-Some-clause-complete : goal.returns-in-Some-clause-complete
@@ -19,4 +19,4 @@ returns-in-Some-clause-complete g c =
       script = c.each_text_has_one_answer.ensures.script;
       traced = c.each_text_has_one_answer.ensures.apart;
     } in
-    rw is (completes_explained one c.in-Some.command c.run.result.status input output c.run.result.board c.run.ensures.explained)
+    rw is (completes_ended one c.in-Some.command c.run.result.status input output c.run.result.board c.run.ensures.ended)

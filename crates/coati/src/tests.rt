@@ -1,13 +1,20 @@
+mod conflicts;
+mod generated;
 mod listings;
 mod postings;
 mod rules;
 mod runs;
 mod traces;
+mod verdicts;
 
 use coati_io::{MemSink, MemSource};
-use coati_top::{Status, coati_still};
+use coati_top::{Status, coati_still, spelled_programs_are_well_formed};
 use std::alloc::Global;
+use std::process::Abort;
 use std::test::Fail;
+use task_check::{Checked, check};
+use task_lex::lex;
+use task_parse::parse;
 
 const COUNTING: &str =
     "nv n = 0; task main { n = n + 1; if n < 3 { next main; } else { halt; } }\n%%\n";
@@ -48,13 +55,22 @@ fn call(
     Ok((done.status, Vec::from_slice(alloc, sink.taken())?))
 }
 
+/// The program of a source.
+fn accepted(rt: &impl Abort, alloc: Global, source: &[u8]) -> Result<Checked, Fail> {
+    spelled_programs_are_well_formed();
+    assert!(rt; source.len() < 1000);
+    let tokens = lex(alloc, source)?;
+    assert!(rt; tokens.len() < 1000);
+    Ok(check(alloc, parse(alloc, source, &tokens)?)?)
+}
+
 #[test]
 fn other_words_are_answered_with_the_usage(rt: HostRuntime) -> Result<(), Fail> {
     let table: [&[&str]; 6] = [
         &[],
         &["run"],
         &["check", "x"],
-        &["run", "buffi"],
+        &["run", "both"],
         &["run", "split", "now"],
         &["walk", "split"],
     ];

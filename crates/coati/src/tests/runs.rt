@@ -26,21 +26,49 @@ const OPERATORS: &str = "nv a[8] = {10,11,12,13,14,15,16,17}; nv r[5]; \
 const COUNTED: &str = "coati split / bound 451 / commit task main reads n=0 n=1 / \
     commit task main reads n=1 n=2 / commit task main reads n=2 n=3 / end idle / var n 3 / held 0";
 
-/// What a run of the source writes, by a trace whose lines are separated by ` / `.
+/// What a run of the source in a mode writes, by a trace whose lines are separated by ` / `.
+pub(super) fn run_in(
+    rt: &impl Abort,
+    alloc: Global,
+    mode: &str,
+    source: &str,
+    trace: &str,
+) -> Result<String, Fail> {
+    let lines = trace.replace(alloc, " / ", "\n")?;
+    let input = format!(in alloc; "{source}\n%%\n{lines}\n")?;
+    let answer = call(alloc, &["run", mode], input.as_bytes(), AMPLE, AMPLE)?;
+    assert_eq!(rt; answer.0, Status::Ok, "{trace}");
+    Ok(String::from_utf8(answer.1)?)
+}
+
+/// In mode `split`.
 pub(super) fn run(
     rt: &impl Abort,
     alloc: Global,
     source: &str,
     trace: &str,
 ) -> Result<String, Fail> {
-    let lines = trace.replace(alloc, " / ", "\n")?;
-    let input = format!(in alloc; "{source}\n%%\n{lines}\n")?;
-    let answer = call(alloc, &["run", "split"], input.as_bytes(), AMPLE, AMPLE)?;
-    assert_eq!(rt; answer.0, Status::Ok, "{trace}");
-    Ok(String::from_utf8(answer.1)?)
+    run_in(rt, alloc, "split", source, trace)
 }
 
-/// A run of the source writes these lines by this trace; those of both are separated by ` / `.
+/// A run of the source in a mode writes these lines by this trace; those of both are separated by
+/// ` / `.
+pub(super) fn expect_in(
+    rt: &impl Abort,
+    alloc: Global,
+    mode: &str,
+    source: &str,
+    trace: &str,
+    lines: &str,
+) -> Result<(), Fail> {
+    let text = lines.replace(alloc, " / ", "\n")?;
+    let wanted = format!(in alloc; "{text}\n")?;
+    let written = run_in(rt, alloc, mode, source, trace)?;
+    assert_eq!(rt; written.as_str(), wanted.as_str(), "{source} by {trace}");
+    Ok(())
+}
+
+/// In mode `split`.
 pub(super) fn expect(
     rt: &impl Abort,
     alloc: Global,
@@ -48,11 +76,7 @@ pub(super) fn expect(
     trace: &str,
     lines: &str,
 ) -> Result<(), Fail> {
-    let text = lines.replace(alloc, " / ", "\n")?;
-    let wanted = format!(in alloc; "{text}\n")?;
-    let written = run(rt, alloc, source, trace)?;
-    assert_eq!(rt; written.as_str(), wanted.as_str(), "{source} by {trace}");
-    Ok(())
+    expect_in(rt, alloc, "split", source, trace, lines)
 }
 
 #[test]

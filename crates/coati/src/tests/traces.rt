@@ -1,27 +1,16 @@
-use super::{AMPLE, COUNTING, DEVICE, call};
-use coati_top::{Status, spelled_programs_are_well_formed};
+use super::{AMPLE, COUNTING, DEVICE, accepted, call};
+use coati_top::Status;
 use serial_log::Script;
 use std::alloc::Global;
 use std::process::Abort;
 use std::test::Fail;
-use task_check::{Checked, check};
-use task_lex::lex;
-use task_parse::parse;
+use task_check::Checked;
 use trace_text::TraceFault::{BadLine, NoLimit, Order, TooMany, Unknown};
 use trace_text::{TraceFault, read_trace};
 
 /// One event of few steps and another of many: a handler takes at most 937 machine steps.
 const EVENTS: &str = "nv n; event e(v) { top { give v; } bottom(x) { n = x; } } \
     event slow(v) { top { repeat i < 100 { } give; } bottom() { } } task m { halt; }";
-
-/// The program of a source.
-fn accepted(rt: &impl Abort, alloc: Global, source: &[u8]) -> Result<Checked, Fail> {
-    spelled_programs_are_well_formed();
-    assert!(rt; source.len() < 1000);
-    let tokens = lex(alloc, source)?;
-    assert!(rt; tokens.len() < 1000);
-    Ok(check(alloc, parse(alloc, source, &tokens)?)?)
-}
 
 /// What is read of a trace of the program.
 fn script(

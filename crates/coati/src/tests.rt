@@ -2,7 +2,6 @@ mod conflicts;
 mod generated;
 mod listings;
 mod postings;
-mod printed;
 mod rules;
 mod runs;
 mod traces;
@@ -67,15 +66,13 @@ fn accepted(rt: &impl Abort, alloc: Global, source: &[u8]) -> Result<Checked, Fa
 
 #[test]
 fn other_words_are_answered_with_the_usage(rt: HostRuntime) -> Result<(), Fail> {
-    let table: [&[&str]; 8] = [
+    let table: [&[&str]; 6] = [
         &[],
         &["run"],
         &["check", "x"],
         &["run", "both"],
         &["run", "split", "now"],
         &["walk", "split"],
-        &["replay"],
-        &["replay", "both"],
     ];
     for words in table {
         let answer = call(rt.alloc(), words, b"", AMPLE, AMPLE)?;

@@ -39,8 +39,7 @@ impl<'a> Judge<'a> {
             ↔ IsAbortLegal (terms_of self.now.checked.now self.now.mode) (shown_by progress.now)
             aborted.now) }
     {
-        let place = progress.run.place;
-        if self.mode != Mode::Buffi || !is_unit_at(self.checked, place, aborted.unit) {
+        if self.mode != Mode::Buffi || !is_unit_at(self.checked, progress.run.place, aborted.unit) {
             return Ok(false);
         }
         let Some(held) = progress.rest.first() else {

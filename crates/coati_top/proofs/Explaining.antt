@@ -54,14 +54,10 @@ module _ (command : Command) (input : InputEdge) (output : OutputEdge) (board : 
         → CommandEnded command (status_of why) input output board
     refused_ended (refusal.Source fault) answers = answers
     refused_ended (refusal.Trace fault) answers = answers
-    refused_ended (refusal.BadPrint number) answers = answers
-    refused_ended (refusal.Differs number) answers = answers
 
     status_stays : (why : Refusal) → after_fault (status_of why) ≡ status_of why
     status_stays (refusal.Source fault) = refl
     status_stays (refusal.Trace fault) = refl
-    status_stays (refusal.BadPrint number) = refl
-    status_stays (refusal.Differs number) = refl
 
     ended_refused : (status before : Status) (text : List ℕ) (why : Refusal) → before ≡ status_of why → Answers command bytes before text board
         → Delivers before status output text → CommandEnded command status input output board

@@ -9,15 +9,14 @@ use Rattle.codegen.specs.Listing.{listing}
 use Rattle.coati_gen.specs.Generated.{generated}
 use Rattle.trace_text.specs.Trace.{TraceText}
 use Rattle.coati_top.specs.declared.command.Command.{Command}
-use Rattle.coati_top.specs.declared.command.Command.TheVariants.{Check, Dump, Run, Replay, Generate}
+use Rattle.coati_top.specs.declared.command.Command.TheVariants.{Check, Dump, Run, Generate}
 use Rattle.coati_top.specs.declared.refusal.Refusal.{Refusal}
 use Rattle.coati_top.specs.declared.status.Status.{Status}
 use Rattle.coati_top.specs.declared.status.Status.TheVariants.{Ok}
 use Rattle.coati_top.specs.CheckText.{check_text}
 use Rattle.coati_top.specs.Divided.{second_part}
-use Rattle.trace_out.specs.BoardText.{board_text}
+use Rattle.coati_top.specs.Printed.{board_text}
 use Rattle.coati_top.specs.Refused.{Refuses, status_of, text_of}
-use Rattle.coati_top.specs.Replayed.{HasSerialPrint, serial_text}
 use Rattle.coati_top.specs.Runs.{IsRun}
 use Rattle.coati_top.specs.Source.{HasAccepted}
 
@@ -43,19 +42,12 @@ pub record ShowsRun (mode : Mode) (input text : List ℕ) (board : Option Whole)
   pub text_is : text ≡ board_text run
   pub kept : board ≡ Some run
 
--- the printed text of the input is serial and legal for the mode, which is said
-pub record ShowsSerial (mode : Mode) (input text : List ℕ) (board : Option Whole) : Type 0 where
-  pub print : HasSerialPrint mode input
-  pub text_is : text ≡ serial_text
-  pub no_run : board ≡ None
-
 -- what a command gives to an input that it serves: its text, and the board of the run where one
 -- was made
 abbrev pub Serves : Command → List ℕ → List ℕ → Option Whole → Type 0
 Serves Check input text board = ShowsProgram check_text input text board
 Serves Dump input text board = ShowsProgram listing input text board
 Serves (Run mode) input text board = ShowsRun mode input text board
-Serves (Replay mode) input text board = ShowsSerial mode input text board
 Serves (Generate rounds) input text board = (text ≡ generated rounds) × (board ≡ None)
 
 -- the answer of a command to an input: its status, its text, and the board of the run where one

@@ -5,10 +5,9 @@ use Rattle.serial_log.specs.declared.script.Script.{Script}
 use Rattle.coati_top.specs.Answer.{AsksFor}
 use Rattle.coati_top.specs.Call.{InputEdge, OutputEdge, ReadingFailed, WritingFailed, input_limit}
 use Rattle.coati_top.specs.declared.command.Command.{Command}
-use Rattle.coati_top.specs.declared.command.Command.TheVariants.{Check, Dump, Run, Replay}
+use Rattle.coati_top.specs.declared.command.Command.TheVariants.{Check, Dump, Run}
 use Rattle.coati_top.specs.declared.refusal.Refusal.{Refusal}
 use Rattle.coati_top.specs.Refused.{Refuses, status_of}
-use Rattle.coati_top.specs.Replayed.{HasSerialPrint}
 use Rattle.coati_top.specs.Source.{HasAccepted}
 use Rattle.coati_top.specs.Words.{reads}
 use Rattle.coati_top.specs.declared.status.Status.{Status}
@@ -47,7 +46,6 @@ abbrev pub CanServe : Command → List ℕ → Type 0
 CanServe Check bytes = IsMeasurable bytes
 CanServe Dump bytes = IsMeasurable bytes
 CanServe (Run mode) bytes = IsRunnable bytes
-CanServe (Replay mode) bytes = HasSerialPrint mode bytes
 CanServe _ bytes = Unit {0}
 
 -- the call ends so, unless memory ran out

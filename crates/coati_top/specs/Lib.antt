@@ -4,11 +4,13 @@ pub mod CheckText
 pub mod Codes
 pub mod Complete
 pub mod Divided
-pub mod JudgedTexts
+pub mod Labels
+pub mod Lines
+pub mod Marks
+pub mod Names
+pub mod Printed
 pub mod Refusal
 pub mod Refused
-pub mod Replayed
-pub mod ReplayedRuns
 pub mod Runs
 pub mod Source
 pub mod SourceFaults

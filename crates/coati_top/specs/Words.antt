@@ -5,14 +5,13 @@ use Rattle.trace_text.specs.Reading.{number_in}
 use Rattle.coati_word.specs.declared.mode.Mode.{Mode}
 use Rattle.coati_word.specs.declared.mode.Mode.TheVariants.{Buffi, Split}
 use Rattle.coati_top.specs.declared.command.Command.{Command}
-use Rattle.coati_top.specs.declared.command.Command.TheVariants.{Check, Dump, Run, Replay, Generate}
+use Rattle.coati_top.specs.declared.command.Command.TheVariants.{Check, Dump, Run, Generate}
 
 -- whether a command reads its input
 abbrev pub reads : Command → Bool
 reads Check = true
 reads Dump = true
 reads (Run mode) = true
-reads (Replay mode) = true
 reads (Generate rounds) = false
 
 -- the greatest number of rounds of an input that is generated
@@ -38,8 +37,7 @@ mode_of word =
 abbrev pub command_of_two : List ℕ → List ℕ → Option Command
 command_of_two command word =
     if bytes_eq command (codes "run") then option_map Run (mode_of word)
-    else (if bytes_eq command (codes "replay") then option_map Replay (mode_of word)
-    else (if bytes_eq command (codes "gen") then generating word else None))
+    else (if bytes_eq command (codes "gen") then generating word else None)
 
 -- the command that the words are, if they are one
 abbrev pub command_of : List (List ℕ) → Option Command

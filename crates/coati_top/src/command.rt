@@ -13,8 +13,6 @@ pub enum Command {
     Dump,
     /// Run the source of the input, with the events in this mode.
     Run(Mode),
-    /// Tell whether the printed text of the input is a serial run of its source, in this mode.
-    Replay(Mode),
     /// Give a source and a trace of so many rounds.
     Generate(u16),
 }
@@ -25,7 +23,7 @@ impl Command {
         ensures { result ≡ reads self }
     {
         match self {
-            Command::Check | Command::Dump | Command::Run(_) | Command::Replay(_) => true,
+            Command::Check | Command::Dump | Command::Run(_) => true,
             Command::Generate(_) => false,
         }
     }
@@ -40,7 +38,6 @@ pub fn command_of(words: &[String]) -> Option<Command>
         [command] if command.as_str() == "check" => Some(Command::Check),
         [command] if command.as_str() == "dump" => Some(Command::Dump),
         [command, mode] if command.as_str() == "run" => mode_of(mode).map(Command::Run),
-        [command, mode] if command.as_str() == "replay" => mode_of(mode).map(Command::Replay),
         [command, rounds] if command.as_str() == "gen" => generating(rounds.as_str()),
         _ => None,
     }

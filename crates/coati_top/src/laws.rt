@@ -1,14 +1,12 @@
 //! What the definitions of an input come to.
 ghost use Rattle.std.specs.Prelude.{◌≡◌, ℕ, List};
 ghost use Rattle.coati_top.specs.Divided.{IsDivided, second_part, source_part};
-ghost use Rattle.coati_top.specs.ReplayedRuns.{RunsReplaySerially};
 ghost use Rattle.task_check.specs.WellFormed.{IsWellFormed};
 ghost use Rattle.task_lex.specs.Reading.{Tokens};
 ghost use Rattle.task_parse.specs.Faults.{Spells};
 
 use task_lex::{Token, tokens_stand_in_their_source};
 use task_syntax::Program;
-use trace_out::{legal_runs_show_serial_texts, runs_say_what_they_show};
 
 /// The two parts of an input divide it, and no others do.
 pub fn an_input_has_one_division()
@@ -23,12 +21,4 @@ pub fn spelled_programs_are_well_formed()
         → Tokens source tokens → Spells source tokens program → IsWellFormed program }
 {
     tokens_stand_in_their_source();
-}
-
-/// The text of a run whose numbers are in range is serial and legal where it is replayed.
-pub fn runs_replay_serially()
-    ensures { RunsReplaySerially }
-{
-    runs_say_what_they_show();
-    legal_runs_show_serial_texts();
 }

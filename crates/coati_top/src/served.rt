@@ -13,8 +13,8 @@ use crate::Command;
 use crate::check_text::check_text;
 use crate::divided::second_part;
 use crate::drive::run_script;
+use crate::printed::printed;
 use crate::refusal::{Refusal, Unserved};
-use crate::replayed::replayed;
 use crate::source::read_source;
 use crate::source_fault::NoProgram;
 use coati_board::Board;
@@ -24,7 +24,6 @@ use codegen::{compile, listing};
 use serial_log::Script;
 use std::alloc::Global;
 use task_check::Checked;
-use trace_out::print;
 use trace_text::{TraceFault, read_trace, scripts_are_within_the_limits};
 
 /// What a command gives.
@@ -46,7 +45,6 @@ pub(crate) fn serve(alloc: Global, command: Command, input: &[u8]) -> Result<Ser
         Command::Check => measured(alloc, input),
         Command::Dump => listed(alloc, input),
         Command::Run(mode) => ran(alloc, mode, input),
-        Command::Replay(mode) => replayed(alloc, mode, input),
         Command::Generate(rounds) => generated(alloc, rounds),
     }
 }
@@ -87,7 +85,7 @@ fn ran(alloc: Global, mode: Mode, input: &[u8]) -> Result<Served, Unserved>
     let checked = accepted(alloc, input)?;
     let script = traced(alloc, input, &checked)?;
     let board = run_script(alloc, checked, mode, script)?;
-    let text = print(alloc, &board)?;
+    let text = printed(alloc, &board)?;
     Ok(Served {
         text,
         board: Some(board),
@@ -109,7 +107,7 @@ fn generated(alloc: Global, rounds: u16) -> Result<Served, Unserved>
 }
 
 /// The program of the input's source, where it is accepted.
-pub(crate) fn accepted(alloc: Global, input: &[u8]) -> Result<Checked, Unserved>
+fn accepted(alloc: Global, input: &[u8]) -> Result<Checked, Unserved>
     requires { length input.now ≤ 262144 }
     ensures source { IfOk result (HasAccepted input.now) }
     ensures unserved { IfErr result (IsUnserved (RefusesSource input.now)) }

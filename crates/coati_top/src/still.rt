@@ -4,16 +4,13 @@ ghost use Rattle.coati_top.specs.Complete.{Completes, IsSteadyInput};
 ghost use Rattle.coati_top.specs.Words.{IsServable, command_of};
 
 use crate::answer::{Reply, reply_to};
-use crate::laws::spelled_programs_are_well_formed;
 use crate::{Command, Done, Status, command_of};
 use coati_io::{ReadEnd, Sink, Source, read_all, write_all};
-use coati_replay::{serial_texts_are_legal, verdicts_are_unique};
 use coati_word::limits::INPUT_BYTES;
 use std::alloc::Global;
 use task_check::laws::refused_is_not_accepted;
 use task_lex::each_source_has_one_answer;
 use task_parse::{a_list_is_one_program, each_list_has_one_answer};
-use trace_out::each_text_says_one_thing;
 use trace_text::each_text_has_one_answer;
 
 /// Does what the words say, from the input to the output. It returns, whatever these do.
@@ -39,10 +36,6 @@ pub fn coati_still<S: Source, K: Sink>(
     each_list_has_one_answer();
     refused_is_not_accepted();
     each_text_has_one_answer();
-    spelled_programs_are_well_formed();
-    each_text_says_one_thing();
-    verdicts_are_unique();
-    serial_texts_are_legal();
     match command_of(words) {
         None => Done {
             status: deliver(output, Status::Usage, USAGE),

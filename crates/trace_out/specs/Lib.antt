@@ -1,12 +1,7 @@
-pub mod Lines
+pub mod Words
 pub mod Names
-pub mod Labels
 pub mod Shown
 pub mod Printed
-pub mod Marks
-pub mod BoardText
-pub mod ShownRun
-pub mod ShownRuns
 pub mod Front
 pub mod Lookups
 pub mod LineReading

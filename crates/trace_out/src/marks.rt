@@ -1,188 +1,171 @@
-//! The lines that show the marks of a history.
+//! The lines that show marks.
 
-ghost use Rattle.std.specs.Prelude.{◌≡◌, ◌++◌, OnOk, flat_map};
-ghost use Rattle.std.specs.List.{Any};
-ghost use Rattle.trace_out.specs.Lines.{with_end};
-ghost use Rattle.trace_out.specs.Marks.{mark_lines, mark_text};
-ghost use Rattle.trace_out.specs.Shown.{abort_line, answer_text, boot_line, commit_line, count_text};
-ghost use Rattle.trace_out.specs.Shown.{end_line, post_line, raised_text, reading_text, unit_text};
+ghost use Rattle.std.specs.Prelude.{◌≡◌, ◌+◌, ◌<◌, ◌≤◌, ◌^◌, IfOk, IfSome, length};
+ghost use Rattle.std.specs.Option.{option_map};
+ghost use Rattle.trace_out.specs.LineReading.{abort_in, answer_in, boot_in, commit_in, mark_in, plain_in, post_in, raised_at};
 
-use crate::names::Names;
-use crate::output::{put, put_number};
-use coati_text::put_decimal;
-use coati_word::{OutOfMemory, Reading};
-use serial_log::{AbortOf, Answer, End, History, MarkKind, Posted, Record, Unit};
+use crate::front::{alone, behind, last_number, number_at};
+use crate::lookups::{event_at, word_at};
+use crate::raised::Raised;
+use crate::readings::readings_in;
+use crate::shown::Shown;
+use crate::units::{posting_at, record_at, tasks_at, unit_at};
+use coati_word::OutOfMemory;
+use coati_word::limits::DEVICES;
+use serial_log::{AbortOf, Answer, Line, Posted, Record, Unit};
+use sqlite_items::Items;
+use std::alloc::Global;
+use task_check::Checked;
 
-/// Appends a line for each mark of the history that is told.
-pub(crate) fn put_marks(
-    out: &mut Vec<u8>,
-    names: &Names,
-    history: &History,
-) -> Result<(), OutOfMemory>
-    ensures { OnOk result (out.new.items ≡ out.old.items
-        ++ mark_lines names.now.checked.now history.now.readings history.now.marks) }
+/// What a line says that shows a mark, where `from` readings stand before it; none where it has no
+/// such form.
+#[tactic(auto, unfolding(crate::specs::LineReading::mark_in))]
+pub(crate) fn mark_in(
+    alloc: Global,
+    checked: &Checked,
+    from: u32,
+    line: &[u8],
+) -> Result<Option<Shown>, OutOfMemory>
+    requires { from + length line.now < 2 ^ 32 }
+    ensures mark { IfOk result (λ found. found ≡ mark_in checked.now from line.now) }
+    ensures few { IfOk result (λ found. IfSome found (λ shown. length shown.readings
+        ≤ length line.now)) }
 {
-    for mark in history.marks() {
-        put_mark(out, names, history, mark.at, &mark.kind)?;
+    if let Some(text) = behind(line, b"commit ") {
+        return commit_in(alloc, checked, from, text);
     }
-    Ok(())
+    match plain_in(checked, line) {
+        Some(line) => Ok(Some(Shown {
+            line,
+            readings: Items::new(alloc),
+        })),
+        None => Ok(None),
+    }
 }
 
-/// Appends the line of a mark.
-fn put_mark(
-    out: &mut Vec<u8>,
-    names: &Names,
-    history: &History,
-    at: u32,
-    kind: &MarkKind,
-) -> Result<(), OutOfMemory>
-    requires { Any (λ mark. mark.kind ≡ kind.now) history.now.marks }
-    ensures { OnOk result (out.new.items ≡ out.old.items
-        ++ mark_text names.now.checked.now history.now.readings at kind.now) }
+/// A commit with its readings.
+#[tactic(auto, unfolding(crate::specs::LineReading::commit_in))]
+fn commit_in(
+    alloc: Global,
+    checked: &Checked,
+    from: u32,
+    text: &[u8],
+) -> Result<Option<Shown>, OutOfMemory>
+    requires { from + length text.now < 2 ^ 32 }
+    ensures commit { IfOk result (λ found. found ≡ commit_in checked.now from text.now) }
+    ensures few { IfOk result (λ found. IfSome found (λ shown. length shown.readings
+        ≤ length text.now)) }
 {
-    match kind {
-        MarkKind::Boot(number) => put_boot(out, at, *number),
-        MarkKind::Posted(posted) => put_post(out, names, at, posted),
-        MarkKind::Done(_) => Ok(()),
-        MarkKind::Commit(committed) => {
-            put_commit(out, names, committed, history.readings(committed))
+    let Some((committed, text)) = record_at(checked, from, text) else {
+        return Ok(None);
+    };
+    match readings_in(alloc, checked, text)? {
+        Some(readings) => {
+            let reads_len = readings.len() as u32;
+            Ok(Some(Shown {
+                line: Line::Commit(Record {
+                    reads_len,
+                    ..committed
+                }),
+                readings,
+            }))
         }
-        MarkKind::Abort(aborted) => put_abort(out, names, aborted),
-        MarkKind::End(end) => put_end(out, *end),
+        None => Ok(None),
     }
 }
 
-fn put_boot(out: &mut Vec<u8>, at: u32, number: u32) -> Result<(), OutOfMemory>
-    ensures { OnOk result (out.new.items ≡ out.old.items ++ with_end (boot_line at number)) }
+/// A boot, a posting or an abort.
+#[tactic(auto, unfolding(crate::specs::LineReading::plain_in))]
+fn plain_in(checked: &Checked, line: &[u8]) -> Option<Line>
+    ensures { result ≡ plain_in checked.now line.now }
 {
-    put_number(out, b"boot", number)?;
-    put_number(out, b" at", at)?;
-    put(out, b"\n")
-}
-
-fn put_post(out: &mut Vec<u8>, names: &Names, at: u32, posted: &Posted) -> Result<(), OutOfMemory>
-    ensures { OnOk result (out.new.items ≡ out.old.items
-        ++ with_end (post_line names.now.checked.now at posted.now)) }
-{
-    put_raised(out, names, posted)?;
-    put_number(out, b" from", posted.from)?;
-    put_number(out, b" at", at)?;
-    put_answer(out, posted.answer)?;
-    put(out, b"\n")
-}
-
-/// Appends which device raised a posting, which of its postings it is, and what it posts.
-fn put_raised(out: &mut Vec<u8>, names: &Names, posted: &Posted) -> Result<(), OutOfMemory>
-    ensures { OnOk result (out.new.items ≡ out.old.items
-        ++ raised_text names.now.checked.now posted.now) }
-{
-    put_number(out, b"post", u32::from(posted.device))?;
-    put(out, b".")?;
-    put_decimal(out, posted.index)?;
-    put(out, b" ")?;
-    names.put_event(out, posted.event)?;
-    put_number(out, b"", u32::from(posted.argument))
-}
-
-fn put_answer(out: &mut Vec<u8>, answer: Answer) -> Result<(), OutOfMemory>
-    ensures { OnOk result (out.new.items ≡ out.old.items ++ answer_text answer) }
-{
-    match answer {
-        Answer::Accepted(number) => put_number(out, b" accepted", number),
-        Answer::Full => put(out, b" full"),
-        Answer::Lost(boot) => put_number(out, b" lost", boot),
+    if let Some(text) = behind(line, b"boot ") {
+        return boot_in(text);
     }
-}
-
-fn put_commit(
-    out: &mut Vec<u8>,
-    names: &Names,
-    committed: &Record,
-    readings: &[Reading],
-) -> Result<(), OutOfMemory>
-    ensures { OnOk result (out.new.items ≡ out.old.items
-        ++ with_end (commit_line names.now.checked.now committed.now readings.now)) }
-{
-    put(out, b"commit ")?;
-    put_unit(out, names, committed.unit)?;
-    put_count(out, committed)?;
-    put(out, b" reads")?;
-    put_readings(out, names, readings)?;
-    put(out, b"\n")
-}
-
-/// Appends the kind and the name of a unit.
-fn put_unit(out: &mut Vec<u8>, names: &Names, unit: Unit) -> Result<(), OutOfMemory>
-    ensures { OnOk result (out.new.items ≡ out.old.items ++ unit_text names.now.checked.now unit) }
-{
-    match unit {
-        Unit::Task(task) => {
-            put(out, b"task ")?;
-            names.put_task(out, task)
-        }
-        Unit::Transaction(tx) => {
-            put(out, b"transaction ")?;
-            names.put_transaction(out, tx)
-        }
-        Unit::Event(event) => {
-            put(out, b"event ")?;
-            names.put_event(out, event)
-        }
+    if let Some(text) = behind(line, b"post ") {
+        return post_in(checked, text);
     }
+    abort_in(checked, behind(line, b"abort ")?)
 }
 
-/// Appends how many tasks a committed transaction had, or which posting an event served.
-fn put_count(out: &mut Vec<u8>, committed: &Record) -> Result<(), OutOfMemory>
-    ensures { OnOk result (out.new.items ≡ out.old.items
-        ++ count_text committed.now committed.now.unit) }
+#[tactic(auto, unfolding(crate::specs::LineReading::boot_in))]
+fn boot_in(text: &[u8]) -> Option<Line>
+    ensures { result ≡ boot_in text.now }
 {
-    match committed.unit {
-        Unit::Task(_) => Ok(()),
-        Unit::Transaction(_) => put_number(out, b" tasks", committed.tasks),
-        Unit::Event(_) => put_number(out, b" posting", committed.posting),
+    let (number, text) = number_at(u32::MAX, text)?;
+    let at = last_number(u32::MAX, behind(text, b" at ")?)?;
+    Some(Line::Boot { number, at })
+}
+
+#[tactic(auto, unfolding(crate::specs::LineReading::post_in))]
+fn post_in(checked: &Checked, text: &[u8]) -> Option<Line>
+    ensures { result ≡ post_in checked.now text.now }
+{
+    let (raised, text) = raised_at(checked, text)?;
+    let (from, text) = number_at(u32::MAX, behind(text, b" from ")?)?;
+    let (at, text) = number_at(u32::MAX, behind(text, b" at ")?)?;
+    let answer = answer_in(text)?;
+    Some(Line::Post {
+        at,
+        posted: Posted {
+            device: raised.device,
+            index: raised.index,
+            event: raised.event,
+            argument: raised.argument,
+            from,
+            answer,
+        },
+    })
+}
+
+/// What a device raised.
+#[tactic(auto, unfolding(crate::specs::LineReading::raised_at))]
+fn raised_at<'a>(checked: &Checked, text: &'a [u8]) -> Option<(Raised, &'a [u8])>
+    ensures { option_map (λ found. (found.0, found.1.now)) result
+        ≡ raised_at checked.now text.now }
+{
+    let (device, text) = number_at(u32::from(DEVICES) - 1, text)?;
+    let (index, text) = number_at(u32::MAX, behind(text, b".")?)?;
+    let (event, text) = event_at(checked, behind(text, b" ")?)?;
+    let (argument, text) = number_at(u32::from(u16::MAX), behind(text, b" ")?)?;
+    let raised = Raised {
+        device: device as u8,
+        index,
+        event,
+        argument: argument as u16,
+    };
+    Some((raised, text))
+}
+
+#[tactic(auto, unfolding(crate::specs::LineReading::answer_in))]
+fn answer_in(text: &[u8]) -> Option<Answer>
+    ensures { result ≡ answer_in text.now }
+{
+    if text == b" full".as_slice() {
+        return Some(Answer::Full);
     }
-}
-
-/// Appends all that a unit read.
-fn put_readings(out: &mut Vec<u8>, names: &Names, readings: &[Reading]) -> Result<(), OutOfMemory>
-    ensures { OnOk result (out.new.items ≡ out.old.items
-        ++ flat_map (reading_text names.now.checked.now) readings.now) }
-{
-    for reading in readings {
-        put_reading(out, names, reading)?;
+    if let Some(number) = behind(text, b" accepted ") {
+        return last_number(u32::MAX, number).map(Answer::Accepted);
     }
-    Ok(())
+    last_number(u32::MAX, behind(text, b" lost ")?).map(Answer::Lost)
 }
 
-/// Appends what was read at a variable word.
-fn put_reading(out: &mut Vec<u8>, names: &Names, reading: &Reading) -> Result<(), OutOfMemory>
-    ensures { OnOk result (out.new.items ≡ out.old.items
-        ++ reading_text names.now.checked.now reading.now) }
+#[tactic(auto, unfolding(crate::specs::LineReading::abort_in))]
+fn abort_in(checked: &Checked, text: &[u8]) -> Option<Line>
+    ensures { result ≡ abort_in checked.now text.now }
 {
-    put(out, b" ")?;
-    names.put_word(out, reading.word)?;
-    put(out, b"=")?;
-    put_decimal(out, u32::from(reading.value))
-}
-
-fn put_abort(out: &mut Vec<u8>, names: &Names, aborted: &AbortOf) -> Result<(), OutOfMemory>
-    ensures { OnOk result (out.new.items ≡ out.old.items
-        ++ with_end (abort_line names.now.checked.now aborted.now)) }
-{
-    put(out, b"abort ")?;
-    put_unit(out, names, aborted.unit)?;
-    put_number(out, b" tasks", aborted.tasks)?;
-    put_number(out, b" posting", aborted.posting)?;
-    put(out, b" word ")?;
-    names.put_word(out, aborted.word)?;
-    put(out, b"\n")
-}
-
-fn put_end(out: &mut Vec<u8>, end: End) -> Result<(), OutOfMemory>
-    ensures { OnOk result (out.new.items ≡ out.old.items ++ with_end (end_line end)) }
-{
-    match end {
-        End::Idle => put(out, b"end idle\n"),
-        End::Limit => put(out, b"end limit\n"),
+    let (unit, text) = unit_at(checked, text)?;
+    if let Unit::Event(_) = unit {
+        return None;
     }
+    let (tasks, text) = tasks_at(text)?;
+    let (posting, text) = posting_at(text)?;
+    let (word, text) = word_at(checked, behind(text, b" word ")?)?;
+    let aborted = AbortOf {
+        unit,
+        tasks,
+        posting,
+        word,
+    };
+    alone(Line::Abort(aborted), text)
 }

@@ -1,12 +1,21 @@
-use Rattle.std.proofs.Common.{refl, sym, subst}
+use Rattle.std.proofs.Common.{refl, sym, subst, ℕ, List}
 use Rattle.std.proofs.lemmas.Result.{err_from_is_err_and}
 use Rattle.serial_log.specs.declared.script.Script.{Script}
 use Rattle.task_syntax.specs.declared.program.Program.{Program}
 use Rattle.coati_top.specs.Answer.{AsksFor}
 use Rattle.coati_top.specs.Divided.{second_part}
+use Rattle.coati_top.specs.Refused.{IsUnserved, RefusesRun, RefusesSource}
+use Rattle.coati_top.specs.declared.refusal.Refusal.TheVariants as refusal
+use Rattle.coati_top.specs.declared.refusal.Unserved.{Unserved}
+use Rattle.coati_top.specs.declared.refusal.Unserved.TheVariants as unserved
 use Rattle.coati_top.proofs.Scripts.{is_script}
-use Rattle.coati_top.proofs.SourcesRefused.{no_run}
 use Rattle.coati_top.proofs.served.ran.Goals as goal
+
+-- a source at fault makes no run
+source_refused : (input : List ℕ) (why : Unserved) → IsUnserved (RefusesSource input) why → IsUnserved (RefusesRun input) why
+source_refused input (unserved.Refused (refusal.Source fault)) cause = cause
+source_refused input (unserved.Refused (refusal.Trace fault)) cause = absurd cause
+source_refused input unserved.OutOfMemory cause = tt
 
 pub run_script-requires-clause-script : goal.run_script-requires-clause-script
 run_script-requires-clause-script c =
@@ -25,7 +34,7 @@ run_script-requires-clause-steps c =
 pub returns-in_err-checked-clause-unserved : goal.returns-in_err-checked-clause-unserved
 returns-in_err-checked-clause-unserved c =
     let p = err_from_is_err_and c.from_residual.result c.from_residual.ensures.1 in
-    rw (p.1, p.2) (no_run c.args.input.now c.in_err-checked.field-0.0 c.in_err-checked.ensures.unserved)
+    rw (p.1, p.2) (source_refused c.args.input.now c.in_err-checked.field-0.0 c.in_err-checked.ensures.unserved)
 
 pub returns-clause-served : goal.returns-clause-served
 returns-clause-served c =

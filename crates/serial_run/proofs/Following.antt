@@ -1,7 +1,7 @@
 -- Tasks that make the readings that were told of them.
 use Rattle.std.proofs.Common.{◌≡◌, ℕ, zero, suc, ◌+◌, ◌-◌, ◌<◌, ◌≤◌, List, [], ◌∷◌, ◌++◌, refl, ap, subst, sym, ◌∙◌, arith, Bool, true, false, length, drop, take, append_assoc, inl, inr, add-one, length-drop, length-append}
 use Rattle.std.specs.Prelude.{IsTrue, Option, Some, None, ◌↔◌, option_and_then, slice_index}
-use Rattle.std.proofs.lemmas.List.{append-nil, append_cancel_left, drop-drop, drop_all, take_all}
+use Rattle.std.proofs.lemmas.List.{append-nil, append_cancel_left, drop-drop, take_all}
 use Rattle.std.proofs.Math.Seq.{drop-append_seam}
 use Rattle.std.proofs.Math.Nat.{eq-or-lt_of_le}
 use Rattle.coati_word.specs.declared.reading.Reading.{Reading}
@@ -10,11 +10,10 @@ use Rattle.task_syntax.specs.Course.{Store, Access, after, put, readings}
 use Rattle.task_syntax.specs.Units.{Reached, followed_by, is_inside, one_more, task_and_more, task_effect, tasks_effect, unless_inside, whole_effect}
 use Rattle.serial_run.specs.declared.follow.Followed.{Followed}
 use Rattle.serial_run.specs.declared.follow.Round.{Round}
-use Rattle.serial_run.specs.Followed.{HasFollowed, HasFollowedUnit, LeadsFrom}
+use Rattle.serial_run.specs.Followed.{HasFollowed}
 use Rattle.serial_run.proofs.Reaching.{ended, one-further}
 use Rattle.serial_run.specs.Rounds.{HasComeRound, IsRoundOn}
 use Rattle.serial_run.proofs.Rounding.{Leads, Way, leads-on, never-whole, nothing-before, way-on}
-use Rattle.serial_run.proofs.Telling.{whole-outside}
 
 readings-append : (first more : List Access) → readings (first ++ more) ≡ readings first ++ readings more
 readings-append [] more = refl

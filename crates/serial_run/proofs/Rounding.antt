@@ -1,11 +1,11 @@
 -- Tasks that make no reading. Such a task leads to one place alone, whatever the store holds, so
 -- those that come round to a place go on for ever.
-use Rattle.std.proofs.Common.{◌≡◌, ℕ, zero, suc, ◌+◌, ◌-◌, ◌≤◌, List, [], ◌∷◌, ◌++◌, refl, ap, subst, sym, ◌∙◌, arith, true, false, add-zero, add-suc, add-one, length, length-append}
-use Rattle.std.specs.Prelude.{Option, Some, None}
+use Rattle.std.proofs.Common.{◌≡◌, ℕ, zero, suc, ◌+◌, ◌-◌, ◌≤◌, List, [], ◌++◌, refl, ap, subst, sym, ◌∙◌, arith, true, add-zero, length, length-append}
+use Rattle.std.specs.Prelude.{Some, None}
 use Rattle.std.proofs.lemmas.List.{nil_from_length}
 use Rattle.coati_word.specs.declared.reading.Reading.{Reading}
 use Rattle.task_syntax.specs.declared.program.Program.{Program}
-use Rattle.task_syntax.specs.Course.{Course, Store, Access, accesses, after, answer, put, readings}
+use Rattle.task_syntax.specs.Course.{Course, Store, accesses, after, answer, put, readings}
 use Rattle.task_syntax.specs.Units.{Reached, followed_by, is_inside, place_after, task_course, task_effect, tasks_effect, whole_effect}
 use Rattle.serial_run.proofs.Reaching.{one-further}
 

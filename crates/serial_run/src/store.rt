@@ -110,9 +110,9 @@ impl SerialStore {
         }
     }
 
-    /// Runs so many tasks of a transaction from its first one on, where they make it whole and read
-    /// exactly this. No more of them run than the readings ask for: none behind a task that reads
-    /// anything else, nor where tasks go round without a reading.
+    /// Runs so many tasks of a transaction from its first one on, where they make it whole and
+    /// read exactly this. No more of them run than the readings ask for: none behind a task that
+    /// reads anything else, nor where tasks go round without a reading.
     pub fn follow_tx(
         self,
         checked: &Checked,

@@ -1,4 +1,4 @@
-use Rattle.std.proofs.Common.{◌≡◌, ◌+◌, ◌++◌, List, drop, length, ◌∙◌, ap, sym}
+use Rattle.std.proofs.Common.{◌+◌, ◌++◌, List, drop, length, ◌∙◌, ap}
 use Rattle.coati_word.specs.declared.reading.Reading.{Reading}
 use Rattle.task_syntax.specs.Units.{place_after}
 use Rattle.serial_run.proofs.Following.{follows-task, strays-task}

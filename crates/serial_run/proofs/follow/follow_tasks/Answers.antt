@@ -1,5 +1,4 @@
-use Rattle.std.proofs.Common.{ap, arith, sym, ◌∙◌}
-use Rattle.task_syntax.specs.Units.{task_effect}
+use Rattle.std.proofs.Common.{arith, sym, ◌∙◌}
 use Rattle.std.specs.Prelude.{slice_index}
 use Rattle.serial_run.proofs.Following.{comes-further, comes-round, ends-before, round-on, strays-at-first, strays-further}
 use Rattle.serial_run.proofs.follow.follow_tasks.Goals as goal

@@ -1,3 +1,4 @@
 pub mod AppendedBytes
 pub mod ConsumedBytes
 pub mod Faults
+pub mod Sending

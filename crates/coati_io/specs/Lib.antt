@@ -3,3 +3,5 @@ pub mod Counts
 pub mod Causes
 pub mod Ends
 pub mod Memory
+pub mod Writing
+pub mod Sending

@@ -114,3 +114,53 @@ fn writers_are_sinks(rt: HostRuntime) -> Result<(), Fail> {
     assert_eq!(rt; full, *b"tex");
     Ok(())
 }
+
+#[test]
+fn a_text_is_sent_in_pieces(rt: HostRuntime) -> Result<(), Fail> {
+    let word = vec![in rt.alloc(); b'a'; 20000]?;
+    let long = vec![in rt.alloc(); b'b'; 40000]?;
+    let none = [].as_slice();
+    let table = [
+        // Room, calls that fail, bytes taken, the answer.
+        (80004, none, 80004, Ok(())),
+        (80004, [1].as_slice(), 0, Err(Failed)),
+        (80004, [2].as_slice(), 20000, Err(Failed)),
+        (80004, [3].as_slice(), 40001, Err(Failed)),
+        (80004, [4].as_slice(), 80001, Err(Failed)),
+        (80003, none, 80001, Err(Failed)),
+        (50000, none, 40001, Err(Failed)),
+        (0, none, 0, Err(Failed)),
+    ];
+    for (room, fails, taken, wanted) in table {
+        let fails = Vec::from_slice(rt.alloc(), fails)?;
+        let mut sink = MemSink::new(rt.alloc(), 50000, fails);
+        sink.reserve(room)?;
+        let mut piece = Piece::new(rt.alloc())?;
+        let mut pieces = Pieces::new(&mut sink, &mut piece);
+        pieces.put(&word);
+        pieces.put(&word);
+        pieces.put_decimal(7);
+        pieces.put(&long);
+        pieces.put(b"end");
+        assert_eq!(rt; pieces.finish(), wanted, "room for {room}");
+        assert_eq!(rt; sink.taken().len(), taken, "room for {room}");
+    }
+    Ok(())
+}
+
+// What a text says does not depend on the pieces in which it is sent.
+#[test]
+fn pieces_are_the_text(rt: HostRuntime) -> Result<(), Fail> {
+    let mut sink = MemSink::new(rt.alloc(), 7, Vec::new(rt.alloc()));
+    sink.reserve(100)?;
+    let mut piece = Piece::new(rt.alloc())?;
+    let mut pieces = Pieces::new(&mut sink, &mut piece);
+    pieces.put(b"post ");
+    pieces.put_decimal(4294967295);
+    pieces.put(b" at ");
+    pieces.put_decimal(0);
+    pieces.put(b"\n");
+    assert_eq!(rt; pieces.finish(), Ok(()));
+    assert_eq!(rt; sink.taken(), b"post 4294967295 at 0\n".as_slice());
+    Ok(())
+}

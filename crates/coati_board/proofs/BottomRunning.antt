@@ -1,5 +1,5 @@
 -- A step of the machine in the bottom half of the oldest held posting.
-use Rattle.std.proofs.Common.{◌≡◌, refl, sym, ap, subst, ◌∙◌}
+use Rattle.std.proofs.Common.{◌≡◌, ℕ, refl, sym, ap, subst, ◌∙◌}
 use Rattle.nv_memory.specs.Seats.{Memory}
 use Rattle.nv_memory.specs.State.{state}
 use Rattle.task_syntax.specs.declared.program.Program.{Program}
@@ -43,16 +43,17 @@ view_shows = record {
 
 -- a step on the view is the row of the machine
 pub runs_bottom_row : (program : Program) (code : Bodies) (d : Device) (before after : Cpu)
-    (old new : BottomView) (turn seen : Turn) (phase : Phase) (attempt : Kept) →
+    (left : ℕ) (old new : BottomView) (turn seen : Turn) (phase : Phase) (attempt : Kept) →
     IsStep view_meaning code before after old new turn → old.image.now ≡ d.image →
-    d.phase ≡ Run before → RunsTheBottomHalf code d →
-    IsClear (state d.image) → turn ≡ seen → phase ≡ phase_of_bottom after seen →
+    d.phase ≡ Run before left → RunsTheBottomHalf code d →
+    IsClear (state d.image) → turn ≡ seen → phase ≡ phase_of_bottom after left seen →
     attempt ≡ after_turn d.attempt seen →
     IsRow program code d (record d { image = new.image.now; phase = phase; attempt = attempt })
-runs_bottom_row program code d before after old new turn seen phase attempt step image_is phase_is
-    can clear turn_is phase_after_is attempt_is =
-    let same : can.cpu ≡ before = run_is can.cpu before (sym can.phase ∙ phase_is) in
-    runs_bottom before after new.image.now seen phase_is
+runs_bottom_row program code d before after left old new turn seen phase attempt step image_is
+    phase_is can clear turn_is phase_after_is attempt_is =
+    let same : can.cpu ≡ before =
+    run_is can.cpu before can.left left (sym can.phase ∙ phase_is) in
+    runs_bottom before after left new.image.now seen phase_is
     (ap (λ (cpu : Cpu). cpu.body) (sym same) ∙ can.body) clear can.events
     (subst (λ (m : Memory). IsStep bottom_view code before after m new.image.now seen) image_is
     (subst (λ (t : Turn). IsStep bottom_view code before after old.image.now new.image.now t)

@@ -1,5 +1,5 @@
 -- A step of the machine in the task to run.
-use Rattle.std.proofs.Common.{◌≡◌, refl, sym, ap, subst, ◌∙◌}
+use Rattle.std.proofs.Common.{◌≡◌, ℕ, refl, sym, ap, subst, ◌∙◌}
 use Rattle.nv_memory.specs.Seats.{Memory}
 use Rattle.nv_memory.specs.State.{state}
 use Rattle.task_syntax.specs.declared.program.Program.{Program}
@@ -43,21 +43,22 @@ view_shows = record {
   stored = λ old new word value part is_last is. is.1;
 }
 
-pub run_is : (a b : Cpu) → Run a ≡ Run b → a ≡ b
-run_is a b e = cc
+pub run_is : (a b : Cpu) (left other : ℕ) → Run a left ≡ Run b other → a ≡ b
+run_is a b left other e = cc
 
 -- a step on the view is the row of the machine
-pub runs_row : (program : Program) (code : Bodies) (d : Device) (before after : Cpu)
+pub runs_row : (program : Program) (code : Bodies) (d : Device) (before after : Cpu) (left : ℕ)
     (old new : TaskView) (turn seen : Turn) (phase : Phase) (attempt : Kept) →
     IsStep view_meaning code before after old new turn → old.image.now ≡ d.image →
-    d.phase ≡ Run before → RunsTheTask code d →
-    IsClear (state d.image) → turn ≡ seen → phase ≡ phase_after after seen →
+    d.phase ≡ Run before left → RunsTheTask code d →
+    IsClear (state d.image) → turn ≡ seen → phase ≡ phase_after after left seen →
     attempt ≡ after_turn d.attempt seen →
     IsRow program code d (record d { image = new.image.now; phase = phase; attempt = attempt })
-runs_row program code d before after old new turn seen phase attempt step image_is phase_is can
-    clear turn_is phase_after_is attempt_is =
-    let same : can.cpu ≡ before = run_is can.cpu before (sym can.phase ∙ phase_is) in
-    runs before after new.image.now seen phase_is (ap (λ (cpu : Cpu). cpu.body) (sym same)
+runs_row program code d before after left old new turn seen phase attempt step image_is phase_is
+    can clear turn_is phase_after_is attempt_is =
+    let same : can.cpu ≡ before =
+    run_is can.cpu before can.left left (sym can.phase ∙ phase_is) in
+    runs before after left new.image.now seen phase_is (ap (λ (cpu : Cpu). cpu.body) (sym same)
     ∙ can.body) clear
     (subst (λ (m : Memory). IsStep task_view code before after m new.image.now seen) image_is
     (subst (λ (t : Turn). IsStep task_view code before after old.image.now new.image.now t) turn_is

@@ -19,7 +19,7 @@ use Rattle.coati_device.specs.declared.device.Phase.{Phase}
 use Rattle.coati_device.specs.declared.device.Phase.TheVariants.{Run}
 use Rattle.coati_device.specs.Cursors.{AreCursors}
 use Rattle.coati_device.specs.Kept.{Kept, after_turn, emptied}
-use Rattle.coati_device.specs.Rows.{IsRow, IsStepOf, phase_after, phase_of_bottom}
+use Rattle.coati_device.specs.Rows.{IsRow, IsStepOf, phase_after, phase_of_bottom, steps_before_end}
 use Rattle.coati_device.specs.Rows.IsRow.{applies, undoes, sleeps, empties, unflags, starts, runs, prepares, joins, commits, empties_entry, starts_bottom, runs_bottom, prepares_event, commits_event, aborts, prepares_drain, drains}
 use Rattle.coati_device.specs.Ticks.{cut, passed, ticked}
 use Rattle.coati_device.proofs.CursorMoves.{cursors_stay}
@@ -93,9 +93,9 @@ module _ (old : Device) where
   row_leaves program code new (unflags change image chooses some empty buffi next written is) =
       rw is (without_mark image old.phase old.attempt)
   row_leaves program code new (starts cpu chooses some empty unflagged start is) =
-      rw is (without_mark old.image (Run cpu) (emptied old.attempt))
-  row_leaves program code new (runs before after image turn phase body clear step is) =
-      rw is (without_mark image (phase_after after turn) (after_turn old.attempt turn))
+      rw is (without_mark old.image (Run cpu (steps_before_end program)) (emptied old.attempt))
+  row_leaves program code new (runs before after left image turn phase body clear step is) =
+      rw is (without_mark image (phase_after after left turn) (after_turn old.attempt turn))
   row_leaves program code new (prepares place image ends other written is) =
       rw is (without_mark image old.phase old.attempt)
   row_leaves program code new (joins place image ends ready inside written is) =
@@ -117,10 +117,10 @@ module _ (old : Device) where
   row_leaves program code new (empties_entry image chooses some written is) =
       rw is (without_mark image old.phase old.attempt)
   row_leaves program code new (starts_bottom cpu chooses empty start is) =
-      rw is (without_mark old.image (Run cpu) (emptied old.attempt))
+      rw is (without_mark old.image (Run cpu (steps_before_end program)) (emptied old.attempt))
   row_leaves program code new
-      (runs_bottom before after image turn phase body clear events step is) =
-      rw is (without_mark image (phase_of_bottom after turn) (after_turn old.attempt turn))
+      (runs_bottom before after left image turn phase body clear events step is) =
+      rw is (without_mark image (phase_of_bottom after left turn) (after_turn old.attempt turn))
   row_leaves program code new (prepares_event image ends other written is) =
       rw is (without_mark image old.phase old.attempt)
   row_leaves program code new (commits_event image ends ready written is) =

@@ -53,7 +53,8 @@ pub record HasRoomToDrain (d : Device) : Type 0 where
 -- the machine runs the task to run, and can make its next step
 pub record RunsTheTask (code : Bodies) (d : Device) : Type 0 where
   pub cpu : Cpu
-  pub phase : d.phase ≡ Run cpu
+  pub left : ℕ
+  pub phase : d.phase ≡ Run cpu left
   pub body : cpu.body ≡ Task (current (state d.image))
   pub exists : HasBody code cpu.body
   pub few : length (task_view.words d.image) ≤ 2 ^ 16
@@ -62,7 +63,8 @@ pub record RunsTheTask (code : Bodies) (d : Device) : Type 0 where
 -- the machine runs the bottom half of the oldest held posting, and can make its next step
 pub record RunsTheBottomHalf (code : Bodies) (d : Device) : Type 0 where
   pub cpu : Cpu
-  pub phase : d.phase ≡ Run cpu
+  pub left : ℕ
+  pub phase : d.phase ≡ Run cpu left
   pub body : cpu.body ≡ Bottom (head_entry (state d.image)).event
   pub events : ComesToEvents (state d.image)
   pub exists : HasBody code cpu.body
@@ -77,7 +79,8 @@ RunsIn code d (Bottom event) = RunsTheBottomHalf code d
 -- the machine runs, and can make its next step
 pub record Runs (code : Bodies) (d : Device) : Type 0 where
   pub cpu : Cpu
-  pub phase : d.phase ≡ Run cpu
+  pub left : ℕ
+  pub phase : d.phase ≡ Run cpu left
   pub can : RunsIn code d cpu.body
 
 -- a row can be done; the postings that wait are numbered by those that were accepted

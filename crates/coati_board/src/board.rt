@@ -36,6 +36,7 @@ use serial_log::{Answer, End, History, Mark, MarkKind, Posting, Script};
 use std::alloc::{AllocError, Global};
 use std::marker::Model;
 use task_check::Checked;
+use task_cost::bounds;
 use word_code::Code;
 
 /// A program on a device under a script, and the history of its run.
@@ -46,6 +47,8 @@ pub struct Board {
     mode: Mode,
     script: Script,
     device: Device,
+    /// How many steps a body makes at most before the one that ends it.
+    most: u32,
 }
 
 impl Model for Board {
@@ -53,6 +56,7 @@ impl Model for Board {
     ghost use Rattle.std.specs.Coded.{codes};
     ghost use Rattle.task_syntax.specs.contracts.statement.Stmt as statement;
     ghost use Rattle.codegen.specs.Bodies.{program_code};
+    ghost use Rattle.coati_device.specs.Rows.{steps_before_end};
     ghost use Rattle.coati_board.specs.Board.{IsBoard, Whole};
 
     ghost Value = { Whole };
@@ -67,6 +71,7 @@ impl Model for Board {
     } };
 
     ghost invariant = { λ b. (b.code ≡ program_code b.checked)
+        × (b.most ≡ steps_before_end b.checked)
         × IsBoard b.checked b.mode b.script b.device };
 }
 
@@ -86,12 +91,14 @@ impl Board {
     {
         devices_are_sound();
         let device = fresh_device(alloc, &checked, mode, &script)?;
+        let most = bounds(&checked).c.saturating_sub(2);
         Ok(Board {
             checked,
             code,
             mode,
             script,
             device,
+            most,
         })
     }
 
@@ -127,6 +134,7 @@ impl Board {
         advance(
             &self.checked,
             &self.code,
+            self.most,
             self.script.power.as_slice(),
             &mut self.device,
         );

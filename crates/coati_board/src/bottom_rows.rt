@@ -13,7 +13,7 @@ ghost use Rattle.task_syntax.specs.declared.body.BodyId.TheVariants as body;
 ghost use Rattle.task_syntax.specs.declared.program.Program.{Program};
 ghost use Rattle.word_code.specs.Code.{Bodies, HasBody};
 ghost use Rattle.coati_device.specs.BottomView.{head_log};
-ghost use Rattle.coati_device.specs.Rows.{ChoosesEvent, EndsBottom, IsClear, IsRow, head_message, params_of};
+ghost use Rattle.coati_device.specs.Rows.{ChoosesEvent, EndsBottom, IsClear, IsRow, head_message, params_of, steps_before_end};
 ghost use Rattle.coati_board.specs.Ready.{HasRoomToEnd, RunsTheBottomHalf};
 
 use crate::bottom_view::BottomView;
@@ -32,7 +32,8 @@ use word_cpu::{Cpu, Turn};
 
 /// The bottom half of the oldest held posting starts, once the log that one before has left in its
 /// entry is empty.
-pub fn choose_event(checked: &Checked, code: &Code, device: &mut Device, job: Job)
+pub fn choose_event(checked: &Checked, code: &Code, most: u32, device: &mut Device, job: Job)
+    requires most { most ≡ steps_before_end checked.now }
     requires range { InRange (state device.old.image) }
     requires chooses { ChoosesEvent device.old }
     requires job { job ≡ job_in (state device.old.image) (head_slot (state device.old.image)) }
@@ -42,12 +43,13 @@ pub fn choose_event(checked: &Checked, code: &Code, device: &mut Device, job: Jo
 {
     match reset_write(&device.image, Log::Entry(job.slot)) {
         Some(write) => put(&mut device.image, write),
-        None => start(checked, code, device, job),
+        None => start(checked, code, most, device, job),
     }
 }
 
 // The bottom half starts with an empty attempt.
-fn start(checked: &Checked, code: &Code, device: &mut Device, job: Job)
+fn start(checked: &Checked, code: &Code, most: u32, device: &mut Device, job: Job)
+    requires most { most ≡ steps_before_end checked.now }
     requires chooses { ChoosesEvent device.old }
     requires job { job ≡ job_in (state device.old.image) (head_slot (state device.old.image)) }
     requires event { job.event < length checked.now.events }
@@ -56,7 +58,8 @@ fn start(checked: &Checked, code: &Code, device: &mut Device, job: Job)
     ensures { IsRow checked.now code.now device.old device.new }
 {
     device.attempt.clear();
-    device.phase = Phase::Run(Cpu::start(code, BodyId::Bottom(job.event), message(checked, &job)));
+    let cpu = Cpu::start(code, BodyId::Bottom(job.event), message(checked, &job));
+    device.phase = Phase::Run(cpu, most);
 }
 
 // The message of a posting: the first words of its entry, as many as its event has parameters.
@@ -78,9 +81,10 @@ pub fn run_bottom_half(code: &Code, device: &mut Device)
     requires room { 0 < device.old.attempt.room }
     ensures { (program : Program) → IsRow program code.now device.old device.new }
 {
-    let Phase::Run(cpu) = &mut device.phase else {
+    let Phase::Run(cpu, left) = &mut device.phase else {
         unreachable!()
     };
+    *left = left.saturating_sub(1);
     let mut view = BottomView {
         image: &mut device.image,
     };

@@ -14,7 +14,7 @@ ghost use Rattle.task_syntax.specs.declared.program.Program.{Program};
 ghost use Rattle.task_syntax.specs.Units.{halt, is_inside, place_after};
 ghost use Rattle.word_code.specs.Code.{Bodies, HasBody};
 ghost use Rattle.coati_device.specs.Laws.{Rows};
-ghost use Rattle.coati_device.specs.Rows.{Chooses, Ends, IsClear, IsRow};
+ghost use Rattle.coati_device.specs.Rows.{Chooses, Ends, IsClear, IsRow, steps_before_end};
 ghost use Rattle.coati_board.specs.Ready.{CanAct, ComesToDrain, HasRoomToEnd, Runs, RunsTheTask, UnflagsBy};
 
 use crate::bottom_rows::{choose_event, end_bottom_half, run_bottom_half};
@@ -42,21 +42,23 @@ use word_code::Code;
 use word_cpu::{Cpu, Turn};
 
 /// The first row that applies.
-pub fn act(checked: &Checked, code: &Code, device: &mut Device)
+pub fn act(checked: &Checked, code: &Code, most: u32, device: &mut Device)
     requires code { code.now ≡ program_code checked.now }
+    requires most { most ≡ steps_before_end checked.now }
     requires ready { CanAct checked.now device.old }
     ensures { Rows checked.now device.old device.new }
 {
     match after_cut(&device.image) {
         reboot::Phase::Apply => apply(device),
         reboot::Phase::Undo => undo(device),
-        reboot::Phase::Choose => go_on(checked, code, device),
+        reboot::Phase::Choose => go_on(checked, code, most, device),
     }
 }
 
 // Neither a commit nor an undo is under way.
-fn go_on(checked: &Checked, code: &Code, device: &mut Device)
+fn go_on(checked: &Checked, code: &Code, most: u32, device: &mut Device)
     requires code { code.now ≡ program_code checked.now }
+    requires most { most ≡ steps_before_end checked.now }
     requires ready { CanAct checked.now device.old }
     requires clear { IsClear (state device.old.image) }
     ensures { Rows checked.now device.old device.new }
@@ -65,8 +67,8 @@ fn go_on(checked: &Checked, code: &Code, device: &mut Device)
     let drains = drains(&device.image);
     match device.phase {
         Phase::Choose if drains => drain(checked, device, false),
-        Phase::Choose => choose(checked, code, device),
-        Phase::Run(_) => run(code, device),
+        Phase::Choose => choose(checked, code, most, device),
+        Phase::Run(..) => run(code, device),
         Phase::End(_) if drains => drain(checked, device, true),
         Phase::End(place) => end(checked, device, place),
         Phase::EndBottom => end_bottom_half(device),
@@ -105,8 +107,9 @@ fn undo(device: &mut Device)
 }
 
 // What comes next: the oldest held posting where no transaction is open, and else the task to run.
-fn choose(checked: &Checked, code: &Code, device: &mut Device)
+fn choose(checked: &Checked, code: &Code, most: u32, device: &mut Device)
     requires code { code.now ≡ program_code checked.now }
+    requires most { most ≡ steps_before_end checked.now }
     requires ready { CanAct checked.now device.old }
     requires clear { IsClear (state device.old.image) }
     requires chooses { device.old.phase ≡ Phase.Choose }
@@ -115,19 +118,20 @@ fn choose(checked: &Checked, code: &Code, device: &mut Device)
 {
     bodies_stand_by_number();
     match pick(&device.image) {
-        Some(job) => choose_event(checked, code, device, job),
-        None => choose_task(code, device),
+        Some(job) => choose_event(checked, code, most, device, job),
+        None => choose_task(code, most, device),
     }
 }
 
 // The task to run starts, once the log and the flags that an attempt before has left are gone.
 // Behind the last task nothing is to do.
-fn choose_task(code: &Code, device: &mut Device)
+fn choose_task(code: &Code, most: u32, device: &mut Device)
     requires range { InRange (state device.old.image) }
     requires chooses { Chooses device.old }
     requires task { current (state device.old.image) ≢ halt
         → HasBody code.now (body.Task (current (state device.old.image))) }
-    ensures { (program : Program) → IsRow program code.now device.old device.new }
+    ensures { (program : Program) → most ≡ steps_before_end program
+        → IsRow program code.now device.old device.new }
 {
     let task = device.image.current();
     if task == HALT {
@@ -135,23 +139,24 @@ fn choose_task(code: &Code, device: &mut Device)
     }
     match reset_write(&device.image, Log::Task) {
         Some(write) => put(&mut device.image, write),
-        None => start_unflagged(code, device, task),
+        None => start_unflagged(code, most, device, task),
     }
 }
 
 // The task starts where no flag of an attempt before is left, in mode `buffi`.
-fn start_unflagged(code: &Code, device: &mut Device, task: u16)
+fn start_unflagged(code: &Code, most: u32, device: &mut Device, task: u16)
     requires range { InRange (state device.old.image) }
     requires chooses { Chooses device.old }
     requires task { task ≡ current (state device.old.image) }
     requires some { task ≢ halt }
     requires body { HasBody code.now (body.Task task) }
     requires empty { log_length (state device.old.image) log.Task ≡ 0 }
-    ensures { (program : Program) → IsRow program code.now device.old device.new }
+    ensures { (program : Program) → most ≡ steps_before_end program
+        → IsRow program code.now device.old device.new }
 {
     match left_flag(&device.image) {
         Some(write) => put(&mut device.image, write),
-        None => start(code, device, task),
+        None => start(code, most, device, task),
     }
 }
 
@@ -169,17 +174,18 @@ fn left_flag(image: &Image) -> Option<Write>
 }
 
 // The task starts with an empty attempt.
-fn start(code: &Code, device: &mut Device, task: u16)
+fn start(code: &Code, most: u32, device: &mut Device, task: u16)
     requires chooses { Chooses device.old }
     requires task { task ≡ current (state device.old.image) }
     requires some { task ≢ halt }
     requires body { HasBody code.now (body.Task task) }
     requires empty { log_length (state device.old.image) log.Task ≡ 0 }
     requires unflagged { mode (state device.old.image) ≡ 1 → HasNoFlag (state device.old.image) }
-    ensures { (program : Program) → IsRow program code.now device.old device.new }
+    ensures { (program : Program) → most ≡ steps_before_end program
+        → IsRow program code.now device.old device.new }
 {
     device.attempt.clear();
-    device.phase = Phase::Run(Cpu::start(code, BodyId::Task(task), &[]));
+    device.phase = Phase::Run(Cpu::start(code, BodyId::Task(task), &[]), most);
 }
 
 // One step of the machine.
@@ -190,7 +196,7 @@ fn run(code: &Code, device: &mut Device)
     requires room { 0 < device.old.attempt.room }
     ensures { (program : Program) → IsRow program code.now device.old device.new }
 {
-    let Phase::Run(cpu) = &device.phase else {
+    let Phase::Run(cpu, _) = &device.phase else {
         unreachable!()
     };
     match cpu.body() {
@@ -208,9 +214,10 @@ fn run_task(code: &Code, device: &mut Device)
     requires room { 0 < device.old.attempt.room }
     ensures { (program : Program) → IsRow program code.now device.old device.new }
 {
-    let Phase::Run(cpu) = &mut device.phase else {
+    let Phase::Run(cpu, left) = &mut device.phase else {
         unreachable!()
     };
+    *left = left.saturating_sub(1);
     let mut view = TaskView {
         image: &mut device.image,
     };

@@ -55,10 +55,10 @@ fn load(image: &mut Image, word: u16) -> u16
     ensures kept { task_words image.new ≡ task_words image.old }
     ensures range { InRange (state image.new) }
 {
-    let value = match look(image, word) {
-        Some(value) => value,
-        None => image.variable(word),
-    };
+    if let Some(value) = look(image, word) {
+        return value;
+    }
+    let value = image.variable(word);
     set_flag(image, word);
     value
 }

@@ -251,7 +251,7 @@ module _ (program : Program) (m : Memory) (reads : Reads) (standing : Standing)
   has_run Choose between fit word shared =
       chosen_run (opened s == 1) refl
       (subst UnitIs (open_at_clear s (opened s == 1) clear refl) fit.unit) fit.place word shared
-  has_run (Run cpu) between fit word shared = absurd between
+  has_run (Run cpu left) between fit word shared = absurd between
   has_run (End place) between fit word shared =
       ended_run place fit (opened s == 1) refl
       (subst UnitIs (open_at_clear s (opened s == 1) clear refl) fit.unit)

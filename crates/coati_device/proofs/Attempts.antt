@@ -1,5 +1,5 @@
 -- A machine that runs a task: how it starts, and that it can make its steps.
-use Rattle.std.proofs.Common.{◌≡◌, ◌≢◌, ℕ, ◌<◌, ◌&&◌, Bool, true, false, List, [], length, not, refl, sym, ap, subst, ◌∙◌, arith, inl, inr}
+use Rattle.std.proofs.Common.{◌≡◌, ◌≢◌, ℕ, ◌-◌, ◌<◌, ◌≤◌, ◌&&◌, Bool, true, false, List, [], length, not, refl, sym, ap, subst, ◌∙◌, arith, inl, inr}
 use Rattle.std.specs.Prelude.{Some, is_some, slice_get}
 use Rattle.std.specs.Option.{option_map}
 use Rattle.std.proofs.lemmas.Option.{slice_get_cases}
@@ -18,6 +18,7 @@ use Rattle.task_syntax.specs.Statements.{body}
 use Rattle.task_syntax.specs.Units.{halt, statements_of, task_course}
 use Rattle.task_check.specs.Accepted.{IsAccepted}
 use Rattle.task_check.specs.Bodies.{task_body}
+use Rattle.task_cost.specs.Limits.{greatest_cost}
 use Rattle.nv_memory.specs.declared.log.Log.TheVariants as log
 use Rattle.nv_memory.specs.Logs.{IsEmpty, log_length, log_value, task_log}
 use Rattle.nv_memory.specs.Seats.{Memory}
@@ -43,8 +44,9 @@ use Rattle.coati_device.specs.Attempt.{IsAtTask, IsAttempt, IsRunning, IsRunning
 use Rattle.coati_device.specs.Kept.{emptied}
 use Rattle.coati_device.specs.Laws.{CanRunOver, Fits}
 use Rattle.coati_device.specs.Points.{IsMemoryOf}
-use Rattle.coati_device.specs.Rows.{Chooses, IsClear}
+use Rattle.coati_device.specs.Rows.{Chooses, IsClear, steps_before_end}
 use Rattle.coati_device.specs.TaskView.{task_view}
+use Rattle.coati_device.proofs.StepsLeft.{in_time_at_start, task_in_bound}
 use Rattle.coati_device.proofs.TaskWords.{words_at_start, words_length}
 
 -- the task of a number
@@ -68,10 +70,10 @@ abbrev TaskComputes : Program → (number count cost : ℕ) → Course Ending �
 TaskComputes program number count cost course =
     Computes (body_words (program_code program) (Task number)) count cost [] course
 
--- it is the task's own
+-- it is the task's own, at a cost within the bound
 task_computes : (program : Program) (number : ℕ) → TasksComputeTheirCourse → IsAccepted program
     → number < length (tasks program)
-    → (cost : ℕ)
+    → (cost : ℕ) × (cost ≤ greatest_cost program)
     × TaskComputes program number (word_count program.vars) cost (task_course program number)
 task_computes program number law accepted low =
     let there = task_there program number low in
@@ -79,15 +81,17 @@ task_computes program number law accepted low =
     let computes = law program accepted number there.0 there.1 in
     let course_is = ap (λ task. body program (statements_of task) no_locals) (sym there.1) in (
       cost,
+      task_in_bound program number there.0 there.1,
       subst (TaskComputes program number (word_count program.vars) cost) course_is computes,
     )
 
 -- the attempt of a machine that runs a task
 pub in_task : (program : Program) (code : Bodies) (m : Memory) (rest : List Held)
-    (read : List Reading) (cpu : Cpu) (number : ℕ) → cpu.body ≡ Task number
-    → IsRunning program code m read cpu → IsAttempt program code m rest read (Run cpu)
-in_task program code m rest read cpu number is running =
-    subst (IsRunningIn program code m rest read cpu) (sym is) running
+    (read : List Reading) (cpu : Cpu) (most number : ℕ) → cpu.body ≡ Task number
+    → IsRunning program code m read cpu most
+    → IsAttempt program code m rest read (Run cpu most)
+in_task program code m rest read cpu most number is running =
+    subst (IsRunningIn program code m rest read cpu most) (sym is) running
 
 none_shared : (b : Bool) → (b && false) ≡ false
 none_shared true = refl
@@ -104,7 +108,7 @@ starts_running : (program : Program) (m : Memory) (cpu : Cpu) → TasksComputeTh
     → IsAccepted program → IsMemoryOf program m → IsClear (state m) → current (state m) ≢ halt
     → log_length (state m) log.Task ≡ 0 → (mode (state m) ≡ 1 → HasNoFlag (state m))
     → IsAtStart (Task (current (state m))) [] cpu
-    → IsRunning program (program_code program) m [] cpu
+    → IsRunning program (program_code program) m [] cpu (steps_before_end program)
 starts_running program m cpu law accepted memory clear on none unset start =
     let code = program_code program in
     let at = at_task program m memory clear on in
@@ -112,19 +116,23 @@ starts_running program m cpu law accepted memory clear on none unset start =
     let course = task_course program number in
     let empty : IsEmpty (state m) log.Task = empty_of (state m) task_log none in
     let found = task_computes program number law accepted at.task in
+    let cost = found.0 in
     let computes =
-    subst (λ (count : ℕ). TaskComputes program number count found.0 course)
-    (sym (words_length m ∙ memory.words)) found.1 in
+    subst (λ (count : ℕ). TaskComputes program number count cost course)
+    (sym (words_length m ∙ memory.words)) found.2 in
     record {
       at = at;
       body = start.body_is;
       done = [];
       made = record { log = empty; reads = refl; flags = no_flag (state m) unset };
-      left = found.0;
+      left = cost - 1;
+      in_time =
+          let some = computes.in_time in
+          in_time_at_start program cost (omega (arith, some)) found.1;
       under_way =
-          subst (λ (base : Store). IsUnderWay task_view code cpu m found.0 course base [])
+          subst (λ (base : Store). IsUnderWay task_view code cpu m (cost - 1) course base [])
           (words_at_start m memory.range clear.mark empty)
-          (starts_under_way task_view code cpu m (Task number) [] found.0 found.0 course computes
+          (starts_under_way task_view code cpu m (Task number) [] cost (cost - 1) course computes
           start (omega arith));
     }
 
@@ -134,7 +142,10 @@ pub starts_keep : (program : Program) (old new : Device) (cpu : Cpu) → TasksCo
     → log_length (state old.image) log.Task ≡ 0
     → (mode (state old.image) ≡ 1 → HasNoFlag (state old.image))
     → IsAtStart (Task (current (state old.image))) [] cpu
-    → new ≡ record old { phase = Run cpu; attempt = emptied old.attempt } → Fits program new
+    → new ≡ record old {
+      phase = Run cpu (steps_before_end program);
+      attempt = emptied old.attempt;
+    } → Fits program new
 starts_keep program old new cpu law accepted fits chooses on none unset start is =
     subst (λ (d : Device). Fits program d) (sym is) (record {
       memory = fits.memory;
@@ -144,34 +155,35 @@ starts_keep program old new cpu law accepted fits chooses on none unset start is
       unit = fits.unit;
       attempt =
           in_task program (program_code program) old.image
-          (standing_of program old.history.marks).rest [] cpu (current (state old.image))
-          start.body_is
+          (standing_of program old.history.marks).rest [] cpu (steps_before_end program)
+          (current (state old.image)) start.body_is
           (starts_running program old.image cpu law accepted fits.memory chooses.clear on none
           unset start);
     })
 
 -- what a running machine says is told by its body
-pub running_in : (program : Program) (d : Device) (cpu : Cpu) (body : BodyId) → Fits program d
-    → d.phase ≡ Run cpu → cpu.body ≡ body
+pub running_in : (program : Program) (d : Device) (cpu : Cpu) (left : ℕ) (body : BodyId)
+    → Fits program d → d.phase ≡ Run cpu left → cpu.body ≡ body
     → IsRunningIn program (program_code program) d.image
-    (standing_of program d.history.marks).rest d.attempt.items cpu body
-running_in program d cpu body fits running is =
+    (standing_of program d.history.marks).rest d.attempt.items cpu left body
+running_in program d cpu left body fits running is =
     let rest = (standing_of program d.history.marks).rest in
-    subst (IsRunningIn program (program_code program) d.image rest d.attempt.items cpu) is
+    subst (IsRunningIn program (program_code program) d.image rest d.attempt.items cpu left) is
     (subst (IsAttempt program (program_code program) d.image rest d.attempt.items) running
     fits.attempt)
 
 -- the attempt of a device that runs a task
-pub running_of : (program : Program) (d : Device) (cpu : Cpu) (number : ℕ) → Fits program d
-    → d.phase ≡ Run cpu → cpu.body ≡ Task number
-    → IsRunning program (program_code program) d.image d.attempt.items cpu
-running_of program d cpu number = running_in program d cpu (Task number)
+pub running_of : (program : Program) (d : Device) (cpu : Cpu) (left number : ℕ) → Fits program d
+    → d.phase ≡ Run cpu left → cpu.body ≡ Task number
+    → IsRunning program (program_code program) d.image d.attempt.items cpu left
+running_of program d cpu left number = running_in program d cpu left (Task number)
 
 -- a machine that runs a task can make its next step
 pub can_run_task : FollowingGoesOn → BodiesStandByNumber → (program : Program) (m : Memory)
-    (read : List Reading) (cpu : Cpu) → IsMemoryOf program m
-    → IsRunning program (program_code program) m read cpu → CanRunOver task_view program cpu m
-can_run_task follows stand program m read cpu memory here =
+    (read : List Reading) (cpu : Cpu) (left : ℕ) → IsMemoryOf program m
+    → IsRunning program (program_code program) m read cpu left
+    → CanRunOver task_view program cpu m
+can_run_task follows stand program m read cpu left memory here =
     let there = task_there program (current (state m)) here.at.task in
     let stands =
     stand program (Task (current (state m))) (task_body there.0)

@@ -1,5 +1,5 @@
 -- The bottom half of the oldest posting starts.
-use Rattle.std.proofs.Common.{◌≡◌, ℕ, List, [], ◌∷◌, length, refl, sym, ap, subst, ◌∙◌, arith}
+use Rattle.std.proofs.Common.{◌≡◌, ℕ, ◌-◌, List, [], ◌∷◌, length, refl, sym, ap, subst, ◌∙◌, arith}
 use Rattle.coati_word.specs.declared.ending.Ending.{Ending}
 use Rattle.coati_word.specs.declared.reading.Reading.{Reading}
 use Rattle.task_syntax.specs.declared.body.BodyId.TheVariants.{Bottom}
@@ -31,9 +31,10 @@ use Rattle.coati_device.specs.BottomView.{bottom_view, head_log}
 use Rattle.coati_device.specs.Kept.{emptied}
 use Rattle.coati_device.specs.Laws.{Fits}
 use Rattle.coati_device.specs.Points.{IsEntryOf, IsMemoryOf}
-use Rattle.coati_device.specs.Rows.{ChoosesEvent, ComesToEvents, IsClear, head_entry, head_message}
+use Rattle.coati_device.specs.Rows.{ChoosesEvent, ComesToEvents, IsClear, head_entry, head_message, steps_before_end}
 use Rattle.coati_device.proofs.BottomWords.{bottom_at_start, bottom_length}
 use Rattle.coati_device.proofs.HeadEntry.{MessagesFit, course_there, event_there, message_at_head, oldest_at_head}
+use Rattle.coati_device.proofs.StepsLeft.{bottom_in_bound, in_time_at_start}
 
 -- the code of a bottom half computes a course on a message, on so many words
 abbrev BottomComputes : Program → (number count cost : ℕ) → List ℕ → Course Ending → Type 0
@@ -42,11 +43,11 @@ BottomComputes program number count cost words course =
 
 -- the attempt of a machine that runs a bottom half
 pub in_bottom : (program : Program) (code : Bodies) (m : Memory) (rest : List Held)
-    (read : List Reading) (cpu : Cpu)
-    (number : ℕ) → cpu.body ≡ Bottom number → IsInBottom program code m rest read cpu
-    → IsAttempt program code m rest read (Run cpu)
-in_bottom program code m rest read cpu number is running =
-    subst (IsRunningIn program code m rest read cpu) (sym is) running
+    (read : List Reading) (cpu : Cpu) (most number : ℕ) → cpu.body ≡ Bottom number
+    → IsInBottom program code m rest read cpu most
+    → IsAttempt program code m rest read (Run cpu most)
+in_bottom program code m rest read cpu most number is running =
+    subst (IsRunningIn program code m rest read cpu most) (sym is) running
 
 module _ (law : BottomHalvesComputeTheirCourse) (fit : MessagesFit) (program : Program)
     (accepted : IsAccepted program)
@@ -61,7 +62,7 @@ module _ (law : BottomHalvesComputeTheirCourse) (fit : MessagesFit) (program : P
     -- the bottom half of the oldest posting runs on the committed words
     starts_for : (rest more : List Held) (held : Held) → rest ≡ held ∷ more
         → IsEntryOf program (head_entry (state m)) held
-        → IsInBottom program (program_code program) m rest [] cpu
+        → IsInBottom program (program_code program) m rest [] cpu (steps_before_end program)
     starts_for rest more held first is =
         let found = event_there program held.event is.known in
         let event = found.0 in
@@ -84,13 +85,17 @@ module _ (law : BottomHalvesComputeTheirCourse) (fit : MessagesFit) (program : P
           body = begins.body_is;
           done = [];
           made = record { log = empty_at_head; reads = refl };
-          left = cost;
+          left = cost - 1;
+          in_time =
+              let some = computes.in_time in
+              in_time_at_start program cost (omega (arith, some))
+              (bottom_in_bound program held.event event found.1);
           under_way =
-              subst (λ (base : Store). IsUnderWay bottom_view (program_code program) cpu m cost
-              (course_at program held) base [])
+              subst (λ (base : Store). IsUnderWay bottom_view (program_code program) cpu m
+              (cost - 1) (course_at program held) base [])
               (bottom_at_start m clear.mark empty_at_head)
               (starts_under_way bottom_view (program_code program) cpu m (Bottom held.event) words
-              cost cost
+              cost (cost - 1)
               (course_at program held) computes begins (omega arith));
         }
 
@@ -101,7 +106,10 @@ pub starts_bottom_keep : BottomHalvesComputeTheirCourse → MessagesFit
     → log_length (state old.image) (head_log (state old.image)) ≡ 0
     → IsAtStart (Bottom (head_entry (state old.image)).event)
     (head_message program (state old.image)) cpu
-    → new ≡ record old { phase = Run cpu; attempt = emptied old.attempt } → Fits program new
+    → new ≡ record old {
+      phase = Run cpu (steps_before_end program);
+      attempt = emptied old.attempt;
+    } → Fits program new
 starts_bottom_keep law fit program old new cpu accepted fits chooses none start is =
     let rest = (standing_of program old.history.marks).rest in
     let head = oldest_at_head program (state old.image) rest chooses.clear.mark chooses.events.held
@@ -114,6 +122,7 @@ starts_bottom_keep law fit program old new cpu accepted fits chooses none start 
       unit = fits.unit;
       attempt =
           in_bottom program (program_code program) old.image rest [] cpu
+          (steps_before_end program)
           (head_entry (state old.image)).event start.body_is
           (starts_for law fit program accepted old.image cpu fits.memory chooses.clear
           chooses.events none start rest head.more

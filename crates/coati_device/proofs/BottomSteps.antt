@@ -1,5 +1,5 @@
 -- A step of the machine in a bottom half keeps what a device keeps, and the machine can make it.
-use Rattle.std.proofs.Common.{◌≡◌, ℕ, ◌<◌, List, [], ◌∷◌, ◌++◌, length, Bool, true, false, Some, None, refl, sym, ap, subst, ◌∙◌, append-nil, arith}
+use Rattle.std.proofs.Common.{◌≡◌, ℕ, ◌-◌, ◌<◌, List, [], ◌∷◌, ◌++◌, length, Bool, true, false, Some, None, refl, sym, ap, subst, ◌∙◌, append-nil, arith}
 use Rattle.std.specs.Prelude.{slice_index}
 use Rattle.std.specs.Option.{option_map, option_or}
 use Rattle.coati_word.specs.declared.ending.Ending.{Ending}
@@ -52,6 +52,7 @@ use Rattle.coati_device.proofs.Attempts.{can_run_task, running_in}
 use Rattle.coati_device.proofs.BottomStarts.{in_bottom}
 use Rattle.coati_device.proofs.BottomWords.{bottom_length}
 use Rattle.coati_device.proofs.HeadEntry.{event_there, oldest_at_head}
+use Rattle.coati_device.proofs.StepsLeft.{in_time_after}
 use Rattle.coati_device.proofs.TaskSteps.{fit_on, read_after}
 use Rattle.coati_device.proofs.TaskWrites.{IsReadyForSteps, LeavesAllElse, MakesMore, logs_no_reading, makes_none, makes_part, written_by_part}
 use Rattle.coati_device.proofs.UnitGrows.{pointwise}
@@ -148,7 +149,7 @@ ends_at_head program m new rest read done ending at made came =
 
 module _ (program : Program) (m new : Memory) (rest : List Held) (read : List Reading)
     (before after : Cpu)
-    (here : IsInBottom program (program_code program) m rest read before) where
+    (most : ℕ) (here : IsInBottom program (program_code program) m rest read before most) where
   abbrev its_course : Course Ending
   its_course = course_at program here.at.held
 
@@ -167,7 +168,7 @@ module _ (program : Program) (m new : Memory) (rest : List Held) (read : List Re
 
   runs_on_head : AccessesJoinUp → after.body ≡ before.body → (turn : Turn) (came : Came turn)
       → MakesAtHead m new came.more
-      → IsInBottom program (program_code program) new rest (read ++ read_by turn) after
+      → IsInBottom program (program_code program) new rest (read ++ read_by turn) after (most - 1)
   runs_on_head joins same turn came makes =
       let stays = makes.logs.else_stays in
       let done = here.done ++ came.more in
@@ -183,6 +184,7 @@ module _ (program : Program) (m new : Memory) (rest : List Held) (read : List Re
         made = made_on_head joins m new read (read_by turn) here.done came.more here.made makes
             came.reads;
         left = came.remaining;
+        in_time = in_time_after program here.left most came.remaining came.in_time here.in_time;
         under_way =
             subst (λ (base : Store). IsUnderWay bottom_view (program_code program) after new
             came.remaining its_course base done)
@@ -192,9 +194,10 @@ module _ (program : Program) (m new : Memory) (rest : List Held) (read : List Re
   -- it goes on
   goes_on_head : AccessesJoinUp → after.body ≡ before.body → (turn : Turn) (came : Came turn)
       → MakesAtHead m new came.more
-      → IsAttempt program (program_code program) new rest (read ++ read_by turn) (Run after)
+      → IsAttempt program (program_code program) new rest (read ++ read_by turn)
+      (Run after (most - 1))
   goes_on_head joins same turn came makes =
-      in_bottom program (program_code program) new rest (read ++ read_by turn) after
+      in_bottom program (program_code program) new rest (read ++ read_by turn) after (most - 1)
       here.at.held.event (same ∙ here.body)
       (runs_on_head joins same turn came makes)
 
@@ -204,7 +207,7 @@ module _ (program : Program) (m new : Memory) (rest : List Held) (read : List Re
       → (turn : Turn) → Comes turn
       → MakesAtHead m new (done_by turn (move_of instr (state_of before)))
       → IsAttempt program (program_code program) new rest (read ++ read_by turn)
-      (phase_of_bottom after turn)
+      (phase_of_bottom after most turn)
   attempt_on_head joins same instr starts (Went reading) came makes =
       goes_on_head joins same (Went reading) came
       (subst (MakesAtHead m new) (came.more_is instr starts) makes)
@@ -217,24 +220,25 @@ module _ (program : Program) (m new : Memory) (rest : List Held) (read : List Re
 -- the row of a machine step
 pub runs_bottom_keep : AccessesJoinUp → CoursesUnderWayGoOn Ending → FollowingGoesOn
     → StoresSetTheValue
-    → (program : Program) (old new : Device) (before after : Cpu) (image : Memory) (turn : Turn)
-    → Fits program old → old.phase ≡ Run before
+    → (program : Program) (old new : Device) (before after : Cpu) (left : ℕ) (image : Memory)
+    (turn : Turn)
+    → Fits program old → old.phase ≡ Run before left
     → before.body ≡ Bottom (head_entry (state old.image)).event
     → IsStep bottom_view (program_code program) before after old.image image turn
     → new ≡ record old {
       image = image;
-      phase = phase_of_bottom after turn;
+      phase = phase_of_bottom after left turn;
       attempt =
           after_turn old.attempt turn;
     }
     → Fits program new
-runs_bottom_keep joins goes_on follows law program old new before after image turn fits running
-    body step is =
+runs_bottom_keep joins goes_on follows law program old new before after left image turn fits
+    running body step is =
     let m = old.image in
     let code = program_code program in
     let standing = standing_of program old.history.marks in
-    let here : IsInBottom program code m standing.rest old.attempt.items before =
-    running_in program old before (Bottom (head_entry (state m)).event) fits running body in
+    let here : IsInBottom program code m standing.rest old.attempt.items before left =
+    running_in program old before left (Bottom (head_entry (state m)).event) fits running body in
     let on_course = here.under_way.on_course in
     let can = can_step bottom_view follows code before m here.left here.under_way.rest on_course in
     let move = move_of can.0 (state_of before) in
@@ -258,13 +262,12 @@ runs_bottom_keep joins goes_on follows law program old new before after image tu
     subst (λ (d : Device). Fits program d) (sym is)
     (fit_on program (head_log (state m)) m image (reads_of old) (after_turn old.attempt turn).items
     old.phase
-    (phase_of_bottom after turn) standing (done_by turn move) fits here.at.clear.mark makes
+    (phase_of_bottom after left turn) standing (done_by turn move) fits here.at.clear.mark makes
     (subst (λ (read : List Reading). IsAttempt program code image standing.rest read
-    (phase_of_bottom after turn))
+    (phase_of_bottom after left turn))
     (sym (read_after old.attempt turn))
-    (attempt_on_head program m image standing.rest old.attempt.items before after here joins
-    step.body can.0
-    can.1.starts turn came makes)))
+    (attempt_on_head program m image standing.rest old.attempt.items before after left here joins
+    step.body can.0 can.1.starts turn came makes)))
 
 -- the event of the posting that is due is one of the program
 due_known : (program : Program) (rest more : List Held) (first held : Held) → rest ≡ first ∷ more
@@ -278,12 +281,12 @@ due_known program rest more first held is due low =
 
 module _ (follows : FollowingGoesOn) (stand : BodiesStandByNumber) (program : Program) where
   -- a machine that runs a bottom half can make its next step
-  can_run_bottom : (m : Memory) (rest : List Held) (read : List Reading) (cpu : Cpu)
+  can_run_bottom : (m : Memory) (rest : List Held) (read : List Reading) (cpu : Cpu) (left : ℕ)
       → IsMemoryOf program m
       → AreHeld program (held_entries (state m)) rest
-      → IsInBottom program (program_code program) m rest read cpu
+      → IsInBottom program (program_code program) m rest read cpu left
       → CanRunOver bottom_view program cpu m
-  can_run_bottom m rest read cpu memory held here =
+  can_run_bottom m rest read cpu left memory held here =
       let head = oldest_at_head program (state m) rest here.at.clear.mark here.at.events.held
       held in
       let known = due_known program rest head.more head.held here.at.held head.first here.at.due
@@ -302,21 +305,21 @@ module _ (follows : FollowingGoesOn) (stand : BodiesStandByNumber) (program : Pr
             (course_at program here.at.held) (committed_word (state m)) here.done here.under_way;
       }
 
-  can_run_in : (m : Memory) (rest : List Held) (read : List Reading) (cpu : Cpu)
+  can_run_in : (m : Memory) (rest : List Held) (read : List Reading) (cpu : Cpu) (left : ℕ)
       → IsMemoryOf program m
       → AreHeld program (held_entries (state m)) rest → (body : BodyId)
-      → IsRunningIn program (program_code program) m rest read cpu body
+      → IsRunningIn program (program_code program) m rest read cpu left body
       → CanRunBody program m cpu body
-  can_run_in m rest read cpu memory held (Task task) here =
-      can_run_task follows stand program m read cpu memory here
-  can_run_in m rest read cpu memory held (Top event) here = absurd here
-  can_run_in m rest read cpu memory held (Bottom event) here =
-      can_run_bottom m rest read cpu memory held here
+  can_run_in m rest read cpu left memory held (Task task) here =
+      can_run_task follows stand program m read cpu left memory here
+  can_run_in m rest read cpu left memory held (Top event) here = absurd here
+  can_run_in m rest read cpu left memory held (Bottom event) here =
+      can_run_bottom m rest read cpu left memory held here
 
   -- a machine that runs can make its next step
-  pub can_run : (d : Device) (cpu : Cpu) → Fits program d → d.phase ≡ Run cpu
+  pub can_run : (d : Device) (cpu : Cpu) (left : ℕ) → Fits program d → d.phase ≡ Run cpu left
       → CanRun program d cpu
-  can_run d cpu fits running =
-      can_run_in d.image (standing_of program d.history.marks).rest d.attempt.items cpu fits.memory
-      fits.stands.held cpu.body
-      (running_in program d cpu cpu.body fits running refl)
+  can_run d cpu left fits running =
+      can_run_in d.image (standing_of program d.history.marks).rest d.attempt.items cpu left
+      fits.memory fits.stands.held cpu.body
+      (running_in program d cpu left cpu.body fits running refl)

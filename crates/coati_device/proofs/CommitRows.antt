@@ -209,17 +209,19 @@ module _ (program : Program) (s : State) (change : Change) (is : IsCommitWrite s
 -- no other attempt is there under a commit
 module _ (program : Program) (code : Bodies) (m n : Memory) (rest : List Held) (read : List Reading)
     (marked : mark (state m) ≢ 0) where
-  running_under_commit : (cpu : Cpu) (body : BodyId) →
-      IsRunningIn program code m rest read cpu body → IsRunningIn program code n rest read cpu body
-  running_under_commit cpu (Task task) runs = absurd (marked runs.at.clear.mark)
-  running_under_commit cpu (Top number) runs = runs
-  running_under_commit cpu (Bottom number) runs = absurd (marked runs.at.clear.mark)
+  running_under_commit : (cpu : Cpu) (left : ℕ) (body : BodyId) →
+      IsRunningIn program code m rest read cpu left body →
+      IsRunningIn program code n rest read cpu left body
+  running_under_commit cpu left (Task task) runs = absurd (marked runs.at.clear.mark)
+  running_under_commit cpu left (Top number) runs = runs
+  running_under_commit cpu left (Bottom number) runs = absurd (marked runs.at.clear.mark)
 
   attempt_under_commit : (phase : Phase) →
       ((place : ℕ) → HasEnded program m read place → HasEnded program n read place) →
       IsAttempt program code m rest read phase → IsAttempt program code n rest read phase
   attempt_under_commit Choose ended attempt = tt
-  attempt_under_commit (Run cpu) ended attempt = running_under_commit cpu cpu.body attempt
+  attempt_under_commit (Run cpu left) ended attempt =
+      running_under_commit cpu left cpu.body attempt
   attempt_under_commit (End place) ended attempt = ended place attempt
   attempt_under_commit EndBottom ended attempt = absurd (marked attempt.at.clear.mark)
 

@@ -54,7 +54,8 @@ between_stays : (program : Program) (code : Bodies) (m n : Memory) (rest later :
     HasEnded program n read place) →
     IsAttempt program code m rest read phase → IsAttempt program code n later read phase
 between_stays program code m n rest later read Choose between stays attempt = tt
-between_stays program code m n rest later read (Run cpu) between stays attempt = absurd between
+between_stays program code m n rest later read (Run cpu left) between stays attempt =
+    absurd between
 between_stays program code m n rest later read (End place) between stays attempt =
     stays place refl attempt
 between_stays program code m n rest later read EndBottom between stays attempt = absurd between

@@ -105,13 +105,13 @@ module _ (program : Program) (old new : Device) (fits : Fits program old)
   written_keeps image change wrote keeps is =
       subst Holds (sym is) (events_on image (after_write image change wrote keeps))
 
-  task_step : FollowingGoesOn → (before after : Cpu) (image : Memory) (turn : Turn) →
-      old.phase ≡ Run before →
+  task_step : FollowingGoesOn → (before after : Cpu) (left : ℕ) (image : Memory) (turn : Turn) →
+      old.phase ≡ Run before left →
       before.body ≡ Task (current s) →
       IsStep task_view (program_code program) before after old.image image turn →
       EventsFit program (state image) standing old.waiting.events
-  task_step follows before after image turn running body step =
-      let here = running_of program old before (current s) fits running body in
+  task_step follows before after left image turn running body step =
+      let here = running_of program old before left (current s) fits running body in
       let can =
       can_step task_view follows (program_code program) before old.image here.left
       here.under_way.rest here.under_way.on_course in
@@ -225,9 +225,10 @@ events_kept follows takes program old new accepted fits holds counted row =
           (unflag_kept s change next) is
       | starts cpu chooses on none unset start is ↦
           subst (HoldsItsEvents program) (sym is) holds
-      | runs before after image turn running body clear step is ↦
+      | runs before after left image turn running body clear step is ↦
           subst (HoldsItsEvents program) (sym is)
-          (task_step program old new fits holds follows before after image turn running body step)
+          (task_step program old new fits holds follows before after left image turn running body
+          step)
       | prepares place image ends other wrote is ↦
           written_keeps program old new fits holds image _ wrote (place_kept s place) is
       | joins place image ends there inside wrote is ↦
@@ -246,7 +247,7 @@ events_kept follows takes program old new accepted fits holds counted row =
       | empties_entry image chooses some wrote is ↦
           λ buffi. absurd (not_buffi old new chooses.events.mode same buffi)
       | starts_bottom cpu chooses none start is ↦ subst (HoldsItsEvents program) (sym is) holds
-      | runs_bottom before after image turn running body clear events step is ↦
+      | runs_bottom before after left image turn running body clear events step is ↦
           λ buffi. absurd (not_buffi old new events.mode same buffi)
       | prepares_event image ends other wrote is ↦
           written_keeps program old new fits holds image _ wrote

@@ -272,7 +272,7 @@ module _ (go_on : HistoriesGoOn) (stay : LegalMarksStay) (terms : Terms) where
     marks_legal new (unflags change image choosing more none buffi is write e) =
         rw e same_history
     marks_legal new (starts cpu choosing more none free start e) = rw e same_history
-    marks_legal new (runs before after image turn phase body clear step e) = rw e same_history
+    marks_legal new (runs before after left image turn phase body clear step e) = rw e same_history
     marks_legal new (prepares place image ends other write e) = rw e same_history
     marks_legal new (joins place image ends there inside write e) =
         rw e (done_legal old.history (current s) old.clock h)
@@ -283,7 +283,7 @@ module _ (go_on : HistoriesGoOn) (stay : LegalMarksStay) (terms : Terms) where
         (whole_next place ends outside))
     marks_legal new (empties_entry image choosing some write e) = rw e same_history
     marks_legal new (starts_bottom cpu choosing none start e) = rw e same_history
-    marks_legal new (runs_bottom before after image turn phase body clear coming step e) =
+    marks_legal new (runs_bottom before after left image turn phase body clear coming step e) =
         rw e same_history
     marks_legal new (prepares_event image ends other write e) = rw e same_history
     marks_legal new (commits_event image ends there write e) =
@@ -359,7 +359,7 @@ module _ (go_on : HistoriesGoOn) (join : MarksJoinUp) (program : Program) (perio
   boots_untold old new (empties image choosing more some write e) h = rw e h
   boots_untold old new (unflags change image choosing more none buffi is write e) h = rw e h
   boots_untold old new (starts cpu choosing more none free start e) h = rw e h
-  boots_untold old new (runs before after image turn phase body clear step e) h = rw e h
+  boots_untold old new (runs before after left image turn phase body clear step e) h = rw e h
   boots_untold old new (prepares place image ends other write e) h = rw e h
   boots_untold old new (joins place image ends there inside write e) h =
       rw e (done_untold old.history (current (state old.image)) (old.clock + 1) h)
@@ -371,7 +371,7 @@ module _ (go_on : HistoriesGoOn) (join : MarksJoinUp) (program : Program) (perio
       (length old.history.readings) (length read)) read (old.clock + 1) h)
   boots_untold old new (empties_entry image choosing some write e) h = rw e h
   boots_untold old new (starts_bottom cpu choosing none start e) h = rw e h
-  boots_untold old new (runs_bottom before after image turn phase body clear coming step e) h =
+  boots_untold old new (runs_bottom before after left image turn phase body clear coming step e) h =
       rw e h
   boots_untold old new (prepares_event image ends other write e) h = rw e h
   boots_untold old new (commits_event image ends there write e) h =
@@ -407,7 +407,7 @@ module _ (go_on : HistoriesGoOn) (join : MarksJoinUp) (program : Program) (perio
   none_accepted old new (empties image choosing more some write e) h = rw e h
   none_accepted old new (unflags change image choosing more none buffi is write e) h = rw e h
   none_accepted old new (starts cpu choosing more none free start e) h = rw e h
-  none_accepted old new (runs before after image turn phase body clear step e) h = rw e h
+  none_accepted old new (runs before after left image turn phase body clear step e) h = rw e h
   none_accepted old new (prepares place image ends other write e) h = rw e h
   none_accepted old new (joins place image ends there inside write e) h =
       rw e (more_counted old.history _ old.accepted refl h)
@@ -415,7 +415,8 @@ module _ (go_on : HistoriesGoOn) (join : MarksJoinUp) (program : Program) (perio
       rw e (more_counted old.history _ old.accepted refl h)
   none_accepted old new (empties_entry image choosing some write e) h = rw e h
   none_accepted old new (starts_bottom cpu choosing none start e) h = rw e h
-  none_accepted old new (runs_bottom before after image turn phase body clear coming step e) h =
+  none_accepted old new
+      (runs_bottom before after left image turn phase body clear coming step e) h =
       rw e h
   none_accepted old new (prepares_event image ends other write e) h = rw e h
   none_accepted old new (commits_event image ends there write e) h =

@@ -179,9 +179,9 @@ module _ (goes_on : CoursesUnderWayGoOn Ending) (program : Program) (code : Bodi
       ∙ values_same (bottom_word (state new)) (bottom_word (state m)) 0 m.n
       (λ word. bottom_word_left (state m) (state new) leaves word clear some)
 
-  running_left : (read : List Reading) (cpu : Cpu) → IsRunning program code m read cpu
-      → IsRunning program code new read cpu
-  running_left read cpu runs =
+  running_left : (read : List Reading) (cpu : Cpu) (most : ℕ)
+      → IsRunning program code m read cpu most → IsRunning program code new read cpu most
+  running_left read cpu most runs =
       let here =
       (stays_under_way task_view goes_on code cpu m runs.left
       (task_course program (current (state m)))
@@ -193,6 +193,7 @@ module _ (goes_on : CoursesUnderWayGoOn Ending) (program : Program) (code : Bodi
         done = runs.done;
         made = made_left (state m) (state new) leaves read runs.done runs.made;
         left = runs.left;
+        in_time = runs.in_time;
         under_way =
             subst (λ (base : Store).
             IsUnderWay task_view code cpu new runs.left (task_course program (current (state new)))
@@ -204,10 +205,10 @@ module _ (goes_on : CoursesUnderWayGoOn Ending) (program : Program) (code : Bodi
             (sym leaves.same_current) here);
       }
 
-  bottom_left : (rest more : List Held) (read : List Reading) (cpu : Cpu)
-      → IsInBottom program code m rest read cpu
-      → IsInBottom program code new (rest ++ more) read cpu
-  bottom_left rest more read cpu runs =
+  bottom_left : (rest more : List Held) (read : List Reading) (cpu : Cpu) (most : ℕ)
+      → IsInBottom program code m rest read cpu most
+      → IsInBottom program code new (rest ++ more) read cpu most
+  bottom_left rest more read cpu most runs =
       let clear = runs.at.clear.mark in
       let some = runs.at.events.held in
       let begun : (word value part : ℕ) → IsBegun (state m) (head_log (state m)) word value part
@@ -226,6 +227,7 @@ module _ (goes_on : CoursesUnderWayGoOn Ending) (program : Program) (code : Bodi
         done = runs.done;
         made = made_at_head_left (state m) (state new) leaves read runs.done clear some runs.made;
         left = runs.left;
+        in_time = runs.in_time;
         under_way =
             subst (λ (base : Store).
             IsUnderWay bottom_view code cpu new runs.left (course_at program runs.at.held) base
@@ -267,18 +269,19 @@ module _ (goes_on : CoursesUnderWayGoOn Ending) (program : Program) (code : Bodi
         ended.at.events.held ended.made);
   }
 
-  in_left : (rest more : List Held) (read : List Reading) (cpu : Cpu) (body : BodyId)
-      → IsRunningIn program code m rest read cpu body
-      → IsRunningIn program code new (rest ++ more) read cpu body
-  in_left rest more read cpu (Task task) runs = running_left read cpu runs
-  in_left rest more read cpu (Top event) runs = absurd runs
-  in_left rest more read cpu (Bottom event) runs = bottom_left rest more read cpu runs
+  in_left : (rest more : List Held) (read : List Reading) (cpu : Cpu) (most : ℕ) (body : BodyId)
+      → IsRunningIn program code m rest read cpu most body
+      → IsRunningIn program code new (rest ++ more) read cpu most body
+  in_left rest more read cpu most (Task task) runs = running_left read cpu most runs
+  in_left rest more read cpu most (Top event) runs = absurd runs
+  in_left rest more read cpu most (Bottom event) runs = bottom_left rest more read cpu most runs
 
   -- so it is in each phase, also where more postings wait
   pub attempt_left : (rest more : List Held) (read : List Reading) (phase : Phase)
       → IsAttempt program code m rest read phase
       → IsAttempt program code new (rest ++ more) read phase
   attempt_left rest more read Choose attempt = tt
-  attempt_left rest more read (Run cpu) attempt = in_left rest more read cpu cpu.body attempt
+  attempt_left rest more read (Run cpu most) attempt =
+      in_left rest more read cpu most cpu.body attempt
   attempt_left rest more read (End place) attempt = ended_left read place attempt
   attempt_left rest more read EndBottom attempt = ended_bottom_left rest more read attempt

@@ -11,6 +11,7 @@ pub mod UnflagRows
 pub mod Modes
 pub mod LogRows
 pub mod EventRows
+pub mod StepsLeft
 pub mod Attempts
 pub mod MarkedMemory
 pub mod TaskCommits

@@ -111,30 +111,31 @@ bottom_mode m new before after (Ended ending) (Move.stores word value next) memo
 bottom_mode m new before after turn (Move.ends ending) memory makes =
     ap (λ (n : Memory). mode (state n)) makes.view
 
-run_mode : (program : Program) (old : Device) (before after : Cpu) (image : Memory) (turn : Turn) →
-    FollowingGoesOn → Fits program old → old.phase ≡ Run before →
+run_mode : (program : Program) (old : Device) (before after : Cpu) (left : ℕ) (image : Memory)
+    (turn : Turn) →
+    FollowingGoesOn → Fits program old → old.phase ≡ Run before left →
     before.body ≡ Task (current (state old.image)) →
     IsStep task_view (program_code program) before after old.image image turn →
     SameMode old.image image
-run_mode program old before after image turn follows fits running body step =
+run_mode program old before after left image turn follows fits running body step =
     let m = old.image in
-    let here = running_of program old before (current (state m)) fits running body in
+    let here = running_of program old before left (current (state m)) fits running body in
     let can = can_step task_view follows (program_code program) before m here.left
     here.under_way.rest here.under_way.on_course in
     task_mode m image before after turn (move_of can.0 (state_of before)) fits.memory.memory
     (step.makes can.0 can.1.starts)
 
-run_bottom_mode : (program : Program) (old : Device) (before after : Cpu) (image : Memory)
-    (turn : Turn) →
-    FollowingGoesOn → Fits program old → old.phase ≡ Run before →
+run_bottom_mode : (program : Program) (old : Device) (before after : Cpu) (left : ℕ)
+    (image : Memory) (turn : Turn) →
+    FollowingGoesOn → Fits program old → old.phase ≡ Run before left →
     before.body ≡ Bottom (head_entry (state old.image)).event →
     IsStep bottom_view (program_code program) before after old.image image turn →
     SameMode old.image image
-run_bottom_mode program old before after image turn follows fits running body step =
+run_bottom_mode program old before after left image turn follows fits running body step =
     let m = old.image in
     let here : IsInBottom program (program_code program) m
-    (standing_of program old.history.marks).rest old.attempt.items before =
-    running_in program old before (Bottom (head_entry (state m)).event) fits running body in
+    (standing_of program old.history.marks).rest old.attempt.items before left =
+    running_in program old before left (Bottom (head_entry (state m)).event) fits running body in
     let can = can_step bottom_view follows (program_code program) before m here.left
     here.under_way.rest here.under_way.on_course in
     bottom_mode m image before after turn (move_of can.0 (state_of before)) fits.memory.memory
@@ -173,9 +174,9 @@ mode_kept follows program old new fits row =
           (written_mode m image change memory wrote
           (flags_go (state m) change fits.memory.range fits.memory.closed next).same_mode)
       | starts cpu chooses on none unset start is ↦ of_image old new m (image_of new _ is) refl
-      | runs before after image turn running body clear step is ↦
+      | runs before after left image turn running body clear step is ↦
           of_image old new image (image_of new _ is)
-          (run_mode program old before after image turn follows fits running body step)
+          (run_mode program old before after left image turn follows fits running body step)
       | prepares place image ends other wrote is ↦ of_image old new image (image_of new _ is)
           (written_mode m image _ memory wrote refl)
       | joins place image ends there inside wrote is ↦ of_image old new image (image_of new _ is)
@@ -186,9 +187,9 @@ mode_kept follows program old new fits row =
       | empties_entry image chooses some wrote is ↦ of_image old new image (image_of new _ is)
           (written_mode m image _ memory wrote refl)
       | starts_bottom cpu chooses none start is ↦ of_image old new m (image_of new _ is) refl
-      | runs_bottom before after image turn running body clear events step is ↦
+      | runs_bottom before after left image turn running body clear events step is ↦
           of_image old new image (image_of new _ is)
-          (run_bottom_mode program old before after image turn follows fits running body step)
+          (run_bottom_mode program old before after left image turn follows fits running body step)
       | prepares_event image ends other wrote is ↦ of_image old new image (image_of new _ is)
           (written_mode m image _ memory wrote refl)
       | commits_event image ends follows_head wrote is ↦

@@ -87,7 +87,7 @@ module _ (steps : ℕ) (periods : List ℕ) (old : Device)
       rw e (no_mark _ refl refl refl refl same_attempt)
   room_left program new (starts cpu choosing more none free start e) =
       rw e (no_mark _ refl refl refl refl no_attempt)
-  room_left program new (runs before after image turn phase body clear step e) =
+  room_left program new (runs before after left image turn phase body clear step e) =
       rw e (no_mark _ refl refl refl refl (after_one steps old.attempt turn h.attempt))
   room_left program new (prepares place image ends other write e) =
       rw e (no_mark _ refl refl refl refl same_attempt)
@@ -118,7 +118,7 @@ module _ (steps : ℕ) (periods : List ℕ) (old : Device)
       rw e (no_mark _ refl refl refl refl same_attempt)
   room_left program new (starts_bottom cpu choosing none start e) =
       rw e (no_mark _ refl refl refl refl no_attempt)
-  room_left program new (runs_bottom before after image turn phase body clear events step e) =
+  room_left program new (runs_bottom before after left image turn phase body clear events step e) =
       rw e (no_mark _ refl refl refl refl (after_one steps old.attempt turn h.attempt))
   room_left program new (prepares_event image ends other write e) =
       rw e (no_mark _ refl refl refl refl same_attempt)

@@ -46,7 +46,7 @@ row_longer program old new (unflags change image choosing more none buffi is wri
     rw e (not_longer old.history)
 row_longer program old new (starts cpu choosing more none free start e) =
     rw e (not_longer old.history)
-row_longer program old new (runs before after image turn phase body clear step e) =
+row_longer program old new (runs before after left image turn phase body clear step e) =
     rw e (not_longer old.history)
 row_longer program old new (prepares place image ends other write e) =
     rw e (not_longer old.history)
@@ -62,7 +62,8 @@ row_longer program old new (empties_entry image choosing some write e) =
     rw e (not_longer old.history)
 row_longer program old new (starts_bottom cpu choosing none start e) =
     rw e (not_longer old.history)
-row_longer program old new (runs_bottom before after image turn phase body clear events step e) =
+row_longer program old new
+    (runs_bottom before after left image turn phase body clear events step e) =
     rw e (not_longer old.history)
 row_longer program old new (prepares_event image ends other write e) =
     rw e (not_longer old.history)

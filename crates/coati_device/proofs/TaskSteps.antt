@@ -1,5 +1,5 @@
 -- A step of the machine in a task keeps what a device keeps.
-use Rattle.std.proofs.Common.{◌≡◌, ℕ, List, [], ◌++◌, length, Some, None, inl, refl, sym, ap, subst, ◌∙◌, append-nil}
+use Rattle.std.proofs.Common.{◌≡◌, ℕ, ◌-◌, List, [], ◌++◌, length, Some, None, inl, refl, sym, ap, subst, ◌∙◌, append-nil}
 use Rattle.std.specs.Option.{option_or}
 use Rattle.coati_word.specs.declared.ending.Ending.{Ending}
 use Rattle.coati_word.specs.declared.reading.Reading.{Reading}
@@ -47,6 +47,7 @@ use Rattle.coati_device.specs.Rows.{phase_after}
 use Rattle.coati_device.specs.TaskView.{task_view}
 use Rattle.coati_device.proofs.Attempts.{in_task, running_of}
 use Rattle.coati_device.proofs.OpenUnits.{LeavesUnit, open_unit_kept}
+use Rattle.coati_device.proofs.StepsLeft.{in_time_after}
 use Rattle.coati_device.proofs.TaskFlags.{FlagsMore, flags_joined, flags_more}
 use Rattle.coati_device.proofs.TaskWrites.{IsReadyForSteps, LeavesAllElse, MakesMore, base_stays, makes_more}
 
@@ -185,7 +186,7 @@ IsIn program cpu m left number base done =
     IsUnderWay task_view (program_code program) cpu m left (task_course program number) base done
 
 module _ (program : Program) (m new : Memory) (read : List Reading) (before after : Cpu)
-    (here : IsRunning program (program_code program) m read before) where
+    (most : ℕ) (here : IsRunning program (program_code program) m read before most) where
   -- a step brought it further
   abbrev Came : Turn → Type 0
   Came turn =
@@ -201,7 +202,7 @@ module _ (program : Program) (m new : Memory) (read : List Reading) (before afte
 
   runs_on : AccessesJoinUp → WrittenWordsAreTold → after.body ≡ before.body → (turn : Turn)
       (came : Came turn) → StepsOn m new came.more
-      → IsRunning program (program_code program) new (read ++ read_by turn) after
+      → IsRunning program (program_code program) new (read ++ read_by turn) after (most - 1)
   runs_on joins told same turn came steps =
       let stays = steps.makes.logs.else_stays in
       let done = here.done ++ came.more in
@@ -213,6 +214,7 @@ module _ (program : Program) (m new : Memory) (read : List Reading) (before afte
             made_on joins told m new read (read_by turn) here.done came.more here.made steps
             came.reads;
         left = came.remaining;
+        in_time = in_time_after program here.left most came.remaining came.in_time here.in_time;
         under_way =
             subst
             (λ (number : ℕ).
@@ -226,9 +228,10 @@ module _ (program : Program) (m new : Memory) (read : List Reading) (before afte
   -- it goes on
   goes_on_in : (rest : List Held) → AccessesJoinUp → WrittenWordsAreTold
       → after.body ≡ before.body → (turn : Turn) (came : Came turn) → StepsOn m new came.more
-      → IsAttempt program (program_code program) new rest (read ++ read_by turn) (Run after)
+      → IsAttempt program (program_code program) new rest (read ++ read_by turn)
+      (Run after (most - 1))
   goes_on_in rest joins told same turn came steps =
-      in_task program (program_code program) new rest (read ++ read_by turn) after
+      in_task program (program_code program) new rest (read ++ read_by turn) after (most - 1)
       (current (state m)) (same ∙ here.body) (runs_on joins told same turn came steps)
 
   -- what a step makes of the attempt
@@ -238,7 +241,7 @@ module _ (program : Program) (m new : Memory) (read : List Reading) (before afte
       → (turn : Turn) → Comes turn
       → StepsOn m new (done_by turn (move_of instr (state_of before)))
       → IsAttempt program (program_code program) new rest (read ++ read_by turn)
-      (phase_after after turn)
+      (phase_after after most turn)
   attempt_on rest joins told same instr starts (Went reading) came steps =
       goes_on_in rest joins told same (Went reading) came
       (subst (StepsOn m new) (came.more_is instr starts) steps)
@@ -251,21 +254,23 @@ module _ (program : Program) (m new : Memory) (read : List Reading) (before afte
 -- the row of a machine step
 pub runs_keep : AccessesJoinUp → WrittenWordsAreTold → CoursesUnderWayGoOn Ending
     → FollowingGoesOn → StoresSetTheValue → FlagWritesSetOneFlag
-    → (program : Program) (old new : Device) (before after : Cpu) (image : Memory) (turn : Turn)
-    → Fits program old → old.phase ≡ Run before → before.body ≡ Task (current (state old.image))
+    → (program : Program) (old new : Device) (before after : Cpu) (left : ℕ) (image : Memory)
+    (turn : Turn)
+    → Fits program old → old.phase ≡ Run before left
+    → before.body ≡ Task (current (state old.image))
     → IsStep task_view (program_code program) before after old.image image turn
     → new ≡ record old {
       image = image;
-      phase = phase_after after turn;
+      phase = phase_after after left turn;
       attempt = after_turn old.attempt turn;
     } → Fits program new
-runs_keep joins told goes_on follows law flags program old new before after image turn fits running
-    body step is =
+runs_keep joins told goes_on follows law flags program old new before after left image turn fits
+    running body step is =
     let m = old.image in
     let code = program_code program in
     let standing = standing_of program old.history.marks in
     let here =
-    running_of program old before (current (state old.image)) fits running body in
+    running_of program old before left (current (state old.image)) fits running body in
     let on_course = here.under_way.on_course in
     let can = can_step task_view follows code before m here.left here.under_way.rest on_course in
     let move = move_of can.0 (state_of before) in
@@ -293,11 +298,11 @@ runs_keep joins told goes_on follows law flags program old new before after imag
     } in
     subst (λ (d : Device). Fits program d) (sym is)
     (fit_on program log.Task m image (reads_of old) (after_turn old.attempt turn).items old.phase
-    (phase_after after turn) standing (done_by turn move) fits here.at.clear.mark
+    (phase_after after left turn) standing (done_by turn move) fits here.at.clear.mark
     steps.makes
     (subst
     (λ (read : List Reading).
-    IsAttempt program code image standing.rest read (phase_after after turn))
+    IsAttempt program code image standing.rest read (phase_after after left turn))
     (sym (read_after old.attempt turn))
-    (attempt_on program m image old.attempt.items before after here standing.rest joins told
+    (attempt_on program m image old.attempt.items before after left here standing.rest joins told
     step.body can.0 can.1.starts turn came steps)))

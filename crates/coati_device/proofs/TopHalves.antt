@@ -1,6 +1,6 @@
 -- The machine in a top half: it comes to the end of the half's course, which gives the message of
 -- its posting.
-use Rattle.std.proofs.Common.{◌≡◌, ℕ, zero, suc, ◌+◌, ◌≤◌, List, [], ◌∷◌, Some, refl, sym, ap, subst, arith, length, length-take, map}
+use Rattle.std.proofs.Common.{◌≡◌, ℕ, zero, suc, ◌+◌, ◌≤◌, List, [], ◌∷◌, Some, refl, sym, ap, subst, arith, length, length-take}
 use Rattle.std.specs.Prelude.{drop, replicate, slice_get, slice_index, take}
 use Rattle.std.proofs.lemmas.List.{length-replicate, length-reverse}
 use Rattle.coati_word.specs.declared.ending.Ending.{Ending}
@@ -9,7 +9,6 @@ use Rattle.task_syntax.specs.declared.program.Event.{Event}
 use Rattle.task_syntax.specs.declared.program.Program.{Program}
 use Rattle.task_syntax.specs.Course.{Access, Course, Store}
 use Rattle.task_syntax.specs.CourseLaws.{AccessesJoinUp, CoursesUnderWayGoOn}
-use Rattle.task_syntax.specs.Depth.{greatest}
 use Rattle.task_syntax.specs.Events.{blank_store, message, message_of}
 use Rattle.task_syntax.specs.Expressions.{no_locals, with_local}
 use Rattle.task_syntax.specs.Names.{word_count}
@@ -34,6 +33,7 @@ use Rattle.word_cpu.specs.UnderWay.{ComesOn, IsAtStart, IsUnderWay}
 use Rattle.word_cpu.proofs.OnCourse.{can_step, steps_along}
 use Rattle.word_cpu.proofs.UnderWay.{ready_under_way, starts_under_way, steps_under_way}
 use Rattle.coati_device.specs.ScratchView.{scratch_view}
+use Rattle.coati_device.proofs.StepsLeft.{below_greatest}
 
 abbrev pub top_course : Program → Event → ℕ → Course Ending
 top_course program event argument =
@@ -174,16 +174,6 @@ module _ (joins : AccessesJoinUp) (goes_on : CoursesUnderWayGoOn Ending)
             given_few decodes _ before after old new ending instr starts (step.makes instr starts);
       }
 
--- a top half costs no more than the greatest cost of an event
-above_each : (cost : Event → ℕ) (events : List Event) (number : ℕ) (event : Event)
-    → slice_get events number ≡ Some event
-    → cost event ≤ greatest (map cost events)
-above_each cost [] number event there = absurd cc
-above_each cost (first ∷ more) zero event there =
-    let same : first ≡ event = cc in rw same (omega arith)
-above_each cost (first ∷ more) (suc number) event there =
-    omega (arith, above_each cost more number event there)
-
 -- with the parts of the posting, its bottom half, and the write that accepts it, it keeps to the
 -- bound of handlers
 pub halves_in_bound : (program : Program) (number : ℕ) (event : Event)
@@ -191,4 +181,4 @@ pub halves_in_bound : (program : Program) (number : ℕ) (event : Event)
     → event_cost program event + 9 ≤ handler_bound program
 halves_in_bound program number event there =
     let low =
-    above_each (event_cost program) program.events number event there in omega (arith, low)
+    below_greatest (event_cost program) program.events number event there in omega (arith, low)

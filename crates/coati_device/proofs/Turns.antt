@@ -47,7 +47,7 @@ use Rattle.coati_device.specs.Kept.{record_of_event, record_of_unit, unit_of}
 use Rattle.coati_device.specs.Laws.{AreCounted, Fits, Rows, RowsKeepMode, ServesEvents}
 use Rattle.coati_device.specs.OpenUnit.{has_unit}
 use Rattle.coati_device.specs.Points.{Awaits, IsBodyOfTask, IsOfTask, ServesInTurn, TakeTurns}
-use Rattle.coati_device.specs.Rows.{Chooses, ComesToEvents, Drains, Ends, EndsBottom, IsClear, abort_change, has_attempt, oldest_posting, phase_after, phase_of_bottom}
+use Rattle.coati_device.specs.Rows.{Chooses, ComesToEvents, Drains, Ends, EndsBottom, IsClear, abort_change, has_attempt, oldest_posting, phase_after, phase_of_bottom, steps_before_end}
 use Rattle.coati_device.specs.Rows.IsRow.{applies, undoes, sleeps, empties, unflags, starts, runs, prepares, joins, commits}
 use Rattle.coati_device.specs.Rows.IsRow.{empties_entry, starts_bottom, runs_bottom, prepares_event, commits_event}
 use Rattle.coati_device.specs.Rows.IsRow.{aborts, prepares_drain, drains}
@@ -62,20 +62,20 @@ use Rattle.coati_device.proofs.TurnMarks.{AreAllLater, GoesInTurn, IsUnderWayWit
 
 -- the attempt of a device in a bottom half
 bottom_of : (program : Program) (m : Memory) (rest : List Held) (read : List Reading) (cpu : Cpu)
-    (phase : Phase) (event : ℕ) →
-    phase ≡ Run cpu → cpu.body ≡ Bottom event →
+    (left : ℕ) (phase : Phase) (event : ℕ) →
+    phase ≡ Run cpu left → cpu.body ≡ Bottom event →
     IsAttempt program (program_code program) m rest read phase →
-    IsInBottom program (program_code program) m rest read cpu
-bottom_of program m rest read cpu phase event running body attempt =
-    subst (IsRunningIn program (program_code program) m rest read cpu) body
+    IsInBottom program (program_code program) m rest read cpu left
+bottom_of program m rest read cpu left phase event running body attempt =
+    subst (IsRunningIn program (program_code program) m rest read cpu left) body
     (subst (IsAttempt program (program_code program) m rest read) running attempt)
 
 -- behind its step there is no task under way
-none_of_bottom : (after : Cpu) (turn : Turn) (event : ℕ) → after.body ≡ Bottom event →
-    IsOfTask (phase_of_bottom after turn) → ⊥
-none_of_bottom after (Went reading) event body is = subst IsBodyOfTask body is
-none_of_bottom after Storing event body is = subst IsBodyOfTask body is
-none_of_bottom after (Ended ending) event body is = is
+none_of_bottom : (after : Cpu) (left : ℕ) (turn : Turn) (event : ℕ) → after.body ≡ Bottom event →
+    IsOfTask (phase_of_bottom after left turn) → ⊥
+none_of_bottom after left (Went reading) event body is = subst IsBodyOfTask body is
+none_of_bottom after left Storing event body is = subst IsBodyOfTask body is
+none_of_bottom after left (Ended ending) event body is = is
 
 module _ (turns : TurnsGoOn) (go_on : HistoriesGoOn) (follows : FollowingGoesOn)
     (program : Program) (old : Device) (fits : Fits program old)
@@ -106,9 +106,10 @@ module _ (turns : TurnsGoOn) (go_on : HistoriesGoOn) (follows : FollowingGoesOn)
   split_none split posting waits = omega (arith, split, waits.mode)
 
   -- nor is one while a task or a bottom half is under way
-  run_none : (cpu : Cpu) → old.phase ≡ Run cpu → (posting : ℕ) → Waits posting → ⊥
-  run_none cpu running posting waits =
-      let no : Choose ≡ Run cpu = sym waits.chooses ∙ running in absurd cc
+  run_none : (cpu : Cpu) (left : ℕ) → old.phase ≡ Run cpu left → (posting : ℕ) →
+      Waits posting → ⊥
+  run_none cpu left running posting waits =
+      let no : Choose ≡ Run cpu left = sym waits.chooses ∙ running in absurd cc
 
   end_none : (place : ℕ) → old.phase ≡ End place → (posting : ℕ) → Waits posting → ⊥
   end_none place ended posting waits =
@@ -192,22 +193,22 @@ module _ (turns : TurnsGoOn) (go_on : HistoriesGoOn) (follows : FollowingGoesOn)
   end_later : (place : ℕ) → Ends old place → Served → AreAllLater program marks
   end_later place ends served = served.later (inl (subst IsOfTask (sym ends.phase) tt))
 
-  run_later : (cpu : Cpu) (task : ℕ) → old.phase ≡ Run cpu → cpu.body ≡ Task task → Served →
-      AreAllLater program marks
-  run_later cpu task running body served =
+  run_later : (cpu : Cpu) (left task : ℕ) → old.phase ≡ Run cpu left → cpu.body ≡ Task task →
+      Served → AreAllLater program marks
+  run_later cpu left task running body served =
       served.later (inl (subst IsOfTask (sym running) (subst IsBodyOfTask (sym body) tt)))
 
   -- a step of a bottom half, in split
-  bottom_on : (image : Memory) (before after : Cpu) (turn : Turn) (event : ℕ) →
-      old.phase ≡ Run before → before.body ≡ Bottom event → IsClear s → ComesToEvents s →
+  bottom_on : (image : Memory) (before after : Cpu) (left : ℕ) (turn : Turn) (event : ℕ) →
+      old.phase ≡ Run before left → before.body ≡ Bottom event → IsClear s → ComesToEvents s →
       KeepsMode image →
       IsStep bottom_view (program_code program) before after old.image image turn →
-      TakeTurns program (state image) (phase_of_bottom after turn) marks
-  bottom_on image before after turn event running body clear events kept step =
+      TakeTurns program (state image) (phase_of_bottom after left turn) marks
+  bottom_on image before after left turn event running body clear events kept step =
       let code = program_code program in
       let rest = (standing_of program marks).rest in
       let here =
-      bottom_of program old.image rest old.attempt.items before old.phase event running body
+      bottom_of program old.image rest old.attempt.items before left old.phase event running body
       fits.attempt in
       let on_course = here.under_way.on_course in
       let can =
@@ -218,10 +219,10 @@ module _ (turns : TurnsGoOn) (go_on : HistoriesGoOn) (follows : FollowingGoesOn)
       (move_of can.0 (state_of before))
       (step.makes can.0 can.1.starts) in
       let none = none_open s clear (ap (λ (o : ℕ). o == 1) events.closed) in
-      turns_on program s (state image) old.phase (phase_of_bottom after turn) marks h (record {
+      turns_on program s (state image) old.phase (phase_of_bottom after left turn) marks h (record {
         mode = kept;
         later = λ split served under. elim under [
-          | inl task ↦ absurd (none_of_bottom after turn event (step.body ∙ body) task)
+          | inl task ↦ absurd (none_of_bottom after left turn event (step.body ∙ body) task)
           | inr unit ↦ absurd (let no : false ≡ true = sym none ∙ sym same ∙ unit in cc)
         ];
         awaits = λ posting waits. absurd (split_none events.mode posting waits);
@@ -463,10 +464,11 @@ module _ (turns : TurnsGoOn) (go_on : HistoriesGoOn) (follows : FollowingGoesOn)
         rw e (written_on image change write (kept e same) (λ unit.
         sym (unflagged_same change is) ∙ unit))
     turns_at new (starts cpu choosing more none free start e) same =
-        rw e (task_on old.image (Run cpu) refl (start_none choosing) (start_later choosing))
-    turns_at new (runs before after image turn phase body clear step e) same =
-        rw e (task_on image (phase_after after turn) (kept e same) (run_none before phase)
-        (run_later before (current s) phase body))
+        rw e (task_on old.image (Run cpu (steps_before_end program)) refl (start_none choosing)
+        (start_later choosing))
+    turns_at new (runs before after left image turn phase body clear step e) same =
+        rw e (task_on image (phase_after after left turn) (kept e same)
+        (run_none before left phase) (run_later before left (current s) phase body))
     turns_at new (prepares place image ends other write e) same =
         rw e (task_on image old.phase (kept e same) (end_none place ends.phase)
         (end_later place ends))
@@ -482,7 +484,7 @@ module _ (turns : TurnsGoOn) (go_on : HistoriesGoOn) (follows : FollowingGoesOn)
     turns_at new (empties_entry image choosing some write e) same =
         rw e (elsewhere image _ _ refl write (kept e same) refl)
     turns_at new (starts_bottom cpu choosing none start e) same =
-        rw e (turns_on program s s old.phase (Run cpu) marks h (record {
+        rw e (turns_on program s s old.phase (Run cpu (steps_before_end program)) marks h (record {
           mode = refl;
           later = λ split served under. elim under [
             | inl task ↦ absurd (subst IsBodyOfTask start.body_is task)
@@ -490,8 +492,8 @@ module _ (turns : TurnsGoOn) (go_on : HistoriesGoOn) (follows : FollowingGoesOn)
           ];
           awaits = λ posting waits. absurd (split_none choosing.events.mode posting waits);
         }))
-    turns_at new (runs_bottom before after image turn phase body clear events step e) same =
-        rw e (bottom_on image before after turn _ phase body clear events (kept e same) step)
+    turns_at new (runs_bottom before after left image turn phase body clear events step e) same =
+        rw e (bottom_on image before after left turn _ phase body clear events (kept e same) step)
     turns_at new (prepares_event image ends other write e) same =
         rw e (elsewhere image _ _ refl write (kept e same) refl)
     turns_at new (commits_event image ends there write e) same =

@@ -1,6 +1,6 @@
 -- Writes of an undo leave that memory fits where the history leads. A unit that is given up counts
 -- no more from the first of them on, and no attempt is under way.
-use Rattle.std.proofs.Common.{◌≡◌, ◌≢◌, ◌==◌, refl, sym, subst, arith, inl, inr, Some, Bool, List, [], ◌∷◌, ◌++◌, length, true, false, if◌then◌else◌}
+use Rattle.std.proofs.Common.{◌≡◌, ◌≢◌, ◌==◌, ℕ, refl, sym, subst, arith, inl, inr, Some, Bool, List, [], ◌∷◌, ◌++◌, length, true, false, if◌then◌else◌}
 use Rattle.std.proofs.lemmas.Bool.Decides.{nat_tests}
 use Rattle.coati_word.specs.declared.reading.Reading.{Reading}
 use Rattle.task_syntax.specs.declared.program.Program.{Program}
@@ -109,16 +109,17 @@ module _ (program : Program) (code : Bodies) (m n : Memory) (rest : List Held) (
   calm_not : doomed (state m) ≢ 0
   calm_not calm = omega (arith, calm, doom)
 
-  running_given_up : (cpu : Cpu) (body : BodyId) →
-      IsRunningIn program code m rest read cpu body → IsRunningIn program code n rest read cpu body
-  running_given_up cpu (Task task) runs = absurd (calm_not runs.at.clear.doomed)
-  running_given_up cpu (Top number) runs = runs
-  running_given_up cpu (Bottom number) runs = absurd (calm_not runs.at.clear.doomed)
+  running_given_up : (cpu : Cpu) (left : ℕ) (body : BodyId) →
+      IsRunningIn program code m rest read cpu left body →
+      IsRunningIn program code n rest read cpu left body
+  running_given_up cpu left (Task task) runs = absurd (calm_not runs.at.clear.doomed)
+  running_given_up cpu left (Top number) runs = runs
+  running_given_up cpu left (Bottom number) runs = absurd (calm_not runs.at.clear.doomed)
 
   attempt_given_up : (phase : Phase) → IsAttempt program code m rest read phase →
       IsAttempt program code n rest read phase
   attempt_given_up Choose attempt = tt
-  attempt_given_up (Run cpu) attempt = running_given_up cpu cpu.body attempt
+  attempt_given_up (Run cpu left) attempt = running_given_up cpu left cpu.body attempt
   attempt_given_up (End place) attempt = absurd (calm_not attempt.at.doomed)
   attempt_given_up EndBottom attempt = absurd (calm_not attempt.at.clear.doomed)
 

@@ -1,6 +1,6 @@
 -- The attempt under way: its task runs on the committed words, changed by the open transaction,
 -- and its log and its readings are what the body has written and read so far.
-use Rattle.std.specs.Prelude.{ℕ, ◌≡◌, ◌<◌, ◌&&◌, ◌⊎◌, Bool, List, length, not, is_some, Some}
+use Rattle.std.specs.Prelude.{ℕ, ◌+◌, ◌≡◌, ◌≤◌, ◌<◌, ◌&&◌, ◌⊎◌, Bool, List, length, not, is_some, Some}
 use Rattle.std.specs.Option.{unwrap_or}
 use Rattle.coati_word.specs.declared.ending.Ending.{Ending}
 use Rattle.coati_word.specs.declared.reading.Reading.{Reading}
@@ -20,6 +20,7 @@ use Rattle.nv_memory.specs.State.{State, state}
 use Rattle.nv_memory.specs.Words.{attempt_flag, current, doomed, mark, mode}
 use Rattle.serial_log.specs.declared.held.Held.{Held}
 use Rattle.serial_log.specs.Postings.{due_posting}
+use Rattle.task_cost.specs.Limits.{attempt_bound}
 use Rattle.word_code.specs.Code.{Bodies}
 use Rattle.word_cpu.specs.declared.cpu.Cpu.{Cpu}
 use Rattle.word_cpu.specs.UnderWay.{IsUnderWay}
@@ -50,14 +51,21 @@ pub record HasMade (s : State) (read : List Reading) (done : List Access) : Type
   pub flags : mode s ≡ 1 → (word : ℕ) → word < s.n →
       attempt_flag s word ≡ is_read_below s done word
 
+-- a body has so many steps left before the one that ends it, of which at most `most` are told, and
+-- these are within an attempt with its start and its end
+pub record IsInTime (program : Program) (left most : ℕ) : Type 0 where
+  pub told : left ≤ most
+  pub within : most + 2 ≤ attempt_bound program
+
 -- the machine is under way in the task to run, with so many steps left at most
 pub record IsRunning (program : Program) (code : Bodies) (m : Memory) (read : List Reading)
-    (cpu : Cpu) : Type 0 where
+    (cpu : Cpu) (most : ℕ) : Type 0 where
   pub at : IsAtTask program (state m)
   pub body : cpu.body ≡ Task (current (state m))
   pub done : List Access
   pub made : HasMade (state m) read done
   pub left : ℕ
+  pub in_time : IsInTime program left most
   pub under_way : IsUnderWay task_view code cpu m left (task_course program (current (state m)))
       (base_word (state m)) done
 
@@ -97,12 +105,13 @@ course_at program held = event_course program held.event held.argument
 
 -- the machine is under way in the bottom half of the oldest held posting, on the committed words
 pub record IsInBottom (program : Program) (code : Bodies) (m : Memory) (rest : List Held)
-    (read : List Reading) (cpu : Cpu) : Type 0 where
+    (read : List Reading) (cpu : Cpu) (most : ℕ) : Type 0 where
   pub at : IsAtPosting (state m) rest
   pub body : cpu.body ≡ Bottom at.held.event
   pub done : List Access
   pub made : HasMadeAtHead (state m) read done
   pub left : ℕ
+  pub in_time : IsInTime program left most
   pub under_way : IsUnderWay bottom_view code cpu m left (course_at program at.held)
       (committed_word (state m)) done
 
@@ -114,15 +123,18 @@ pub record HasEndedBottom (program : Program) (m : Memory) (rest : List Held) (r
       (committed_word (state m)))
 
 -- what a running machine says, by its body
-abbrev pub IsRunningIn : Program → Bodies → Memory → List Held → List Reading → Cpu → BodyId →
-    Type 0
-IsRunningIn program code m rest read cpu (Task task) = IsRunning program code m read cpu
-IsRunningIn program code m rest read cpu (Top event) = ⊥
-IsRunningIn program code m rest read cpu (Bottom event) = IsInBottom program code m rest read cpu
+abbrev pub IsRunningIn : Program → Bodies → Memory → List Held → List Reading → Cpu →
+    (most : ℕ) → BodyId → Type 0
+IsRunningIn program code m rest read cpu most (Task task) =
+    IsRunning program code m read cpu most
+IsRunningIn program code m rest read cpu most (Top event) = ⊥
+IsRunningIn program code m rest read cpu most (Bottom event) =
+    IsInBottom program code m rest read cpu most
 
 -- what the phase says of the attempt, where these postings wait
 abbrev pub IsAttempt : Program → Bodies → Memory → List Held → List Reading → Phase → Type 0
 IsAttempt program code m rest read Choose = Unit {0}
-IsAttempt program code m rest read (Run cpu) = IsRunningIn program code m rest read cpu cpu.body
+IsAttempt program code m rest read (Run cpu most) =
+    IsRunningIn program code m rest read cpu most cpu.body
 IsAttempt program code m rest read (End place) = HasEnded program m read place
 IsAttempt program code m rest read EndBottom = HasEndedBottom program m rest read

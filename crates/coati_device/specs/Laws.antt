@@ -231,8 +231,8 @@ CanRun program d cpu = CanRunBody program d.image cpu cpu.body
 
 abbrev pub RunningMachinesCanRun : Type 0
 RunningMachinesCanRun =
-    (program : Program) (d : Device) (cpu : Cpu) → IsAccepted program → Fits program d →
-    d.phase ≡ Run cpu →
+    (program : Program) (d : Device) (cpu : Cpu) (left : ℕ) → IsAccepted program →
+    Fits program d → d.phase ≡ Run cpu left →
     CanRun program d cpu
 
 -- a handler makes so many machine steps at most

@@ -143,7 +143,7 @@ IsBodyOfTask (Bottom event) = ⊥
 -- a task is under way: it runs, or has ended, or its unit is open
 abbrev pub IsOfTask : Phase → Type 0
 IsOfTask Choose = ⊥
-IsOfTask (Run cpu) = IsBodyOfTask cpu.body
+IsOfTask (Run cpu left) = IsBodyOfTask cpu.body
 IsOfTask (End place) = Unit {0}
 IsOfTask EndBottom = ⊥
 

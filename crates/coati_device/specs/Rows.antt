@@ -24,6 +24,7 @@ use Rattle.word_cpu.specs.declared.turn.Turn.{Turn}
 use Rattle.word_cpu.specs.declared.turn.Turn.TheVariants.{Went, Storing, Ended}
 use Rattle.word_cpu.specs.Turning.{IsStep}
 use Rattle.word_cpu.specs.UnderWay.{IsAtStart}
+use Rattle.task_cost.specs.Limits.{attempt_bound}
 use Rattle.coati_device.specs.declared.device.Device.{Device}
 use Rattle.coati_device.specs.declared.device.Phase.{Phase}
 use Rattle.coati_device.specs.declared.device.Phase.TheVariants.{Choose, Run, End, EndBottom}
@@ -92,7 +93,7 @@ pub record EndsBottom (d : Device) : Type 0 where
 -- in buffi an event may be committed: no attempt is under way, or it has ended
 abbrev pub IsBetween : Phase → Type 0
 IsBetween Choose = Unit {0}
-IsBetween (Run cpu) = ⊥
+IsBetween (Run cpu left) = ⊥
 IsBetween (End place) = Unit {0}
 IsBetween EndBottom = ⊥
 
@@ -126,17 +127,22 @@ abort_change s = if opened s == 1 then Some doom_change else None
 abbrev pub tasks_given_up : Device → ℕ
 tasks_given_up d = if has_attempt d.phase then d.finished + 1 else d.finished
 
--- what a step of the machine in a bottom half makes of the phase
-abbrev pub phase_of_bottom : Cpu → Turn → Phase
-phase_of_bottom cpu (Went reading) = Run cpu
-phase_of_bottom cpu Storing = Run cpu
-phase_of_bottom cpu (Ended ending) = EndBottom
+-- the steps that a body makes at most before the one that ends it; an attempt is its start and
+-- its body
+abbrev pub steps_before_end : Program → ℕ
+steps_before_end program = attempt_bound program - 2
 
--- what a step of the machine makes of the phase
-abbrev pub phase_after : Cpu → Turn → Phase
-phase_after cpu (Went reading) = Run cpu
-phase_after cpu Storing = Run cpu
-phase_after cpu (Ended ending) = End (place_after ending)
+-- what a step of the machine in a bottom half makes of the phase, where so many were left
+abbrev pub phase_of_bottom : Cpu → (left : ℕ) → Turn → Phase
+phase_of_bottom cpu left (Went reading) = Run cpu (left - 1)
+phase_of_bottom cpu left Storing = Run cpu (left - 1)
+phase_of_bottom cpu left (Ended ending) = EndBottom
+
+-- what a step of the machine makes of the phase, where so many were left
+abbrev pub phase_after : Cpu → (left : ℕ) → Turn → Phase
+phase_after cpu left (Went reading) = Run cpu (left - 1)
+phase_after cpu left Storing = Run cpu (left - 1)
+phase_after cpu left (Ended ending) = End (place_after ending)
 
 pub data IsRow (program : Program) (code : Bodies) (old new : Device) : Type 0 where
   -- a commit is under way: its next write
@@ -168,15 +174,19 @@ pub data IsRow (program : Program) (code : Bodies) (old new : Device) : Type 0 w
       log_length (state old.image) log.Task ≡ 0 →
       (mode (state old.image) ≡ 1 → HasNoFlag (state old.image)) →
       IsAtStart (Task (current (state old.image))) [] cpu →
-      new ≡ record old { phase = Run cpu; attempt = emptied old.attempt } →
+      new ≡ record old {
+        phase = Run cpu (steps_before_end program);
+        attempt = emptied old.attempt;
+      } →
       IsRow program code old new
   -- the machine makes a step in the task
-  runs : (before after : Cpu) (image : Memory) (turn : Turn) → old.phase ≡ Run before →
+  runs : (before after : Cpu) (left : ℕ) (image : Memory) (turn : Turn) →
+      old.phase ≡ Run before left →
       before.body ≡ Task (current (state old.image)) → IsClear (state old.image) →
       IsStep task_view code before after old.image image turn →
       new ≡ record old {
         image = image;
-        phase = phase_after after turn;
+        phase = phase_after after left turn;
         attempt = after_turn old.attempt turn;
       } →
       IsRow program code old new
@@ -223,16 +233,20 @@ pub data IsRow (program : Program) (code : Bodies) (old new : Device) : Type 0 w
       log_length (state old.image) (head_log (state old.image)) ≡ 0 →
       IsAtStart (Bottom (head_entry (state old.image)).event)
       (head_message program (state old.image)) cpu →
-      new ≡ record old { phase = Run cpu; attempt = emptied old.attempt } →
+      new ≡ record old {
+        phase = Run cpu (steps_before_end program);
+        attempt = emptied old.attempt;
+      } →
       IsRow program code old new
   -- the machine makes a step in the bottom half
-  runs_bottom : (before after : Cpu) (image : Memory) (turn : Turn) → old.phase ≡ Run before →
+  runs_bottom : (before after : Cpu) (left : ℕ) (image : Memory) (turn : Turn) →
+      old.phase ≡ Run before left →
       before.body ≡ Bottom (head_entry (state old.image)).event → IsClear (state old.image) →
       ComesToEvents (state old.image) →
       IsStep bottom_view code before after old.image image turn →
       new ≡ record old {
         image = image;
-        phase = phase_of_bottom after turn;
+        phase = phase_of_bottom after left turn;
         attempt = after_turn old.attempt turn;
       } →
       IsRow program code old new

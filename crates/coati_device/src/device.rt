@@ -10,8 +10,8 @@ use word_cpu::Cpu;
 pub enum Phase {
     /// Memory alone tells what is next.
     Choose,
-    /// The machine runs a body.
-    Run(Cpu),
+    /// The machine runs a body, and makes so many steps at most before the one that ends it.
+    Run(Cpu, u32),
     /// The body of the task to run has ended, and the program goes on at this place.
     End(u16),
     /// The bottom half of the oldest held posting has ended.

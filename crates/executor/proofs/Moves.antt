@@ -51,7 +51,8 @@ row_raises_none program code old new
     subst (RaisesNone old) (sym is) (no_marks old _ refl refl)
 row_raises_none program code old new (starts cpu chooses awake none unflagged at is) =
     subst (RaisesNone old) (sym is) (no_marks old _ refl refl)
-row_raises_none program code old new (runs before after image turn phase body clear step is) =
+row_raises_none program code old new
+    (runs before after left image turn phase body clear step is) =
     subst (RaisesNone old) (sym is) (no_marks old _ refl refl)
 row_raises_none program code old new (prepares place image ends other written is) =
     subst (RaisesNone old) (sym is) (no_marks old _ refl refl)
@@ -66,7 +67,7 @@ row_raises_none program code old new (empties_entry image chooses some written i
 row_raises_none program code old new (starts_bottom cpu chooses none at is) =
     subst (RaisesNone old) (sym is) (no_marks old _ refl refl)
 row_raises_none program code old new
-    (runs_bottom before after image turn phase body clear events step is) =
+    (runs_bottom before after left image turn phase body clear events step is) =
     subst (RaisesNone old) (sym is) (no_marks old _ refl refl)
 row_raises_none program code old new (prepares_event image ends other written is) =
     subst (RaisesNone old) (sym is) (no_marks old _ refl refl)

@@ -12,9 +12,11 @@ pub returns : goal.returns
 returns c =
     let s = state c.args.device.now.image in
     let program = c.args.checked.now in
-    let starts : IsAtStart (Bottom (head_entry s).event) (head_message program s) c.start.result =
+    let starts : IsAtStart (Bottom (head_entry s).event) (head_message program s)
+    c.start-cpu.result =
     subst (λ (job : Job). IsAtStart (Bottom job.event)
-    (take (params_of program job.event) job.message) c.start.result) c.requires.job
-    (subst (λ (words : List ℕ). IsAtStart (Bottom c.args.job.event) words c.start.result)
-    c.message.ensures.words c.start.ensures) in
-    starts_bottom c.start.result c.requires.chooses c.requires.empty starts (cc)
+    (take (params_of program job.event) job.message) c.start-cpu.result) c.requires.job
+    (subst (λ (words : List ℕ). IsAtStart (Bottom c.args.job.event) words c.start-cpu.result)
+    c.message.ensures.words c.start-cpu.ensures) in
+    let most = c.requires.most in
+    starts_bottom c.start-cpu.result c.requires.chooses c.requires.empty starts (cc)

@@ -65,4 +65,5 @@ choose_task-requires-clause-chooses c = record {
 pub returns-in-None : goal.returns-in-None
 returns-in-None c =
     subst (λ (code : Bodies). IsRow c.args.checked.now code c.args.device.now
-    c.choose_task.new.device) c.requires.code (c.choose_task.ensures c.args.checked.now)
+    c.choose_task.new.device) c.requires.code
+    (c.choose_task.ensures c.args.checked.now c.requires.most)

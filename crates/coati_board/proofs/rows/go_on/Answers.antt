@@ -10,9 +10,10 @@ pub run-requires-clause-runs : goal.run-requires-clause-runs
 run-requires-clause-runs c =
     let d = c.args.device.now in
     subst (λ (code : Bodies). Runs code d) (sym c.requires.code)
-    (runs_of c.args.checked.now d c.in-Run.field-0 c.requires.ready.fit c.in-Run.is
-    (c.rows_keep_fit.ensures.runs c.args.checked.now d c.in-Run.field-0 c.requires.ready.accepted
-    c.requires.ready.fit c.in-Run.is))
+    (runs_of c.args.checked.now d c.in-Run.field-0 c.in-Run.field-1 c.requires.ready.fit
+    c.in-Run.is
+    (c.rows_keep_fit.ensures.runs c.args.checked.now d c.in-Run.field-0 c.in-Run.field-1
+    c.requires.ready.accepted c.requires.ready.fit c.in-Run.is))
 
 pub end_bottom_half-requires-clause-ends : goal.end_bottom_half-requires-clause-ends
 end_bottom_half-requires-clause-ends c =

@@ -31,12 +31,12 @@ returns-clause-fit c = λ program old new accepted fits events counted row. elim
   | starts cpu chooses on none unset start is ↦
       starts_keep program old new cpu c.accepted_programs_compute_their_courses.ensures.tasks
       accepted fits chooses on none unset start is
-  | runs before after image turn running body clear step is ↦
+  | runs before after left image turn running body clear step is ↦
       runs_keep c.accesses_join_up.ensures c.written_words_are_told.ensures
       c.courses_under_way_go_on.ensures.bodies c.following_goes_on.ensures
       c.stores_set_the_value.ensures
-      c.flag_writes_set_one_flag.ensures program old new before after image turn fits running body
-      step is
+      c.flag_writes_set_one_flag.ensures program old new before after left image turn fits running
+      body step is
   | prepares place image ends other wrote is ↦
       prepares_keep program old new place image accepted fits ends wrote is
   | joins place image ends there inside wrote is ↦
@@ -52,10 +52,10 @@ returns-clause-fit c = λ program old new accepted fits events counted row. elim
   | starts_bottom cpu chooses none start is ↦
       starts_bottom_keep c.accepted_programs_compute_their_courses.ensures.bottoms messages_fit
       program old new cpu accepted fits chooses none start is
-  | runs_bottom before after image turn running body clear events step is ↦
+  | runs_bottom before after left image turn running body clear events step is ↦
       runs_bottom_keep c.accesses_join_up.ensures c.courses_under_way_go_on.ensures.bodies
-      c.following_goes_on.ensures c.stores_set_the_value.ensures program old new before after image
-      turn fits running body step is
+      c.following_goes_on.ensures c.stores_set_the_value.ensures program old new before after left
+      image turn fits running body step is
   | prepares_event image ends other wrote is ↦
       prepares_event_keep program old new image fits ends wrote is
   | commits_event image ends follows wrote is ↦
@@ -72,8 +72,8 @@ returns-clause-fit c = λ program old new accepted fits events counted row. elim
 ]
 
 pub returns-clause-runs : goal.returns-clause-runs
-returns-clause-runs c = λ program d cpu accepted.
-    can_run c.following_goes_on.ensures c.bodies_stand_by_number.ensures program d cpu
+returns-clause-runs c = λ program d cpu left accepted.
+    can_run c.following_goes_on.ensures c.bodies_stand_by_number.ensures program d cpu left
 
 pub returns-clause-mode : goal.returns-clause-mode
 returns-clause-mode c = λ program old new accepted fits row.

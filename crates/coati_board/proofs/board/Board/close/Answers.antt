@@ -26,8 +26,8 @@ legal_end c = elim c.if-is_over.branch [
       (c.is_over.ensures.0 w.if-is_over.true).idle in
       subst (IsEndLegal (standing_of c.self.inside.checked c.self.inside.device.history.marks))
       (sym w.end-is)
-      (done_where_idle c.self.inside.checked c.self.inside.device c.self.invariant.1.sizes
-      c.self.invariant.1.sound.fit idle)
+      (done_where_idle c.self.inside.checked c.self.inside.device c.self.invariant.2.sizes
+      c.self.invariant.2.sound.fit idle)
   | else-is_over w ↦ subst
       (IsEndLegal (standing_of c.self.inside.checked c.self.inside.device.history.marks))
       (sym w.end-is) tt
@@ -36,11 +36,12 @@ legal_end c = elim c.if-is_over.branch [
 pub invariant_of-self : goal.invariant_of-self
 invariant_of-self c = (
   c.self.invariant.0,
+  c.self.invariant.1,
   subst (λ (past : Past). IsBoard c.self.inside.checked c.self.inside.mode c.self.inside.script
       (record c.self.inside.device { history = past }))
       (sym c.push.ensures)
       (closed_board c.self.inside.checked c.self.inside.mode c.self.inside.script
-      c.self.inside.device c.if-is_over.end c.self.invariant.1
+      c.self.inside.device c.if-is_over.end c.self.invariant.2
       (still_open (goal.at.invariant_of-self c).After-push)
       (legal_end (goal.at.invariant_of-self c).After-push)),
 )

@@ -18,7 +18,7 @@ returns-clause-some c =
     let inside = c.self.inside in
     some_is_left inside.script.postings inside.device.history.marks inside.device.cursors
     c.args.self.now.device.cursors c.first_left.result
-    (ap (λ (w : Whole). w.device.cursors) c.self.view_is) c.self.invariant.1.cursors
+    (ap (λ (w : Whole). w.device.cursors) c.self.view_is) c.self.invariant.2.cursors
     (c.first_left.ensures
     ∙ ap (λ (postings : List Posting). slice_get postings
     (first_place inside.device.cursors (length postings))) c.as_slice.ensures)

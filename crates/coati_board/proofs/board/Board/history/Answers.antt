@@ -12,7 +12,7 @@ told : (c : After-self) →
     c.self.inside.device
 told c =
     let inside = c.self.inside in
-    let board = c.self.invariant.1 in
+    let board = c.self.invariant.2 in
     c.devices_are_sound.ensures.told (terms_of inside.checked inside.mode) inside.script.power
     inside.device board.scripted.periods board.sound
 

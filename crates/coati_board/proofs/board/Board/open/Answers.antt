@@ -1,3 +1,5 @@
+use Rattle.std.proofs.Common.{◌-◌, ◌∙◌, ap}
+use Rattle.task_cost.specs.declared.limits.Bounds.{Bounds}
 use Rattle.coati_board.proofs.Starting.{opened_board}
 use Rattle.coati_board.proofs.board.Board.open.Goals as goal
 
@@ -5,6 +7,7 @@ pub invariant_of-result : goal.invariant_of-result
 invariant_of-result c =
     let made = c.in_ok-device.ensures in (
       c.requires.code,
+      c.saturating_sub-most.ensures ∙ ap (λ (of : Bounds). of.c - 2) c.bounds.ensures,
       opened_board c.args.checked c.args.mode c.args.script _ made.accepted made.sizes
           c.requires.script made.fresh.fresh
           made.fresh.cursors made.fresh.spare made.fresh.room c.devices_are_sound.ensures.fresh,

@@ -20,7 +20,7 @@ raise-requires-clause-can c =
     let inside = c.self.inside in
     let same : inside.device ≡ c.args.self.now.device =
     ap (λ (w : Whole). w.device) c.self.view_is in
-    can_raise inside.checked inside.mode inside.script inside.device c.self.invariant.1
+    can_raise inside.checked inside.mode inside.script inside.device c.self.invariant.2
     c.args.device c.requires.device
     (subst (λ (d : Device). 0 < (cursor_of d.cursors c.args.device).left) (sym same)
     c.requires.left)
@@ -49,7 +49,7 @@ raised : (c : After-raise) →
 raised c =
     let inside = c.self.inside in
     raise_keeps inside.checked inside.mode inside.script c.args.device inside.device
-    c.raise.new.device c.raise.result c.self.invariant.1
+    c.raise.new.device c.raise.result c.self.invariant.2
     c.requires.device
     (subst (λ (d : Device). 0 < (cursor_of d.cursors c.args.device).left) (sym (device_is c))
     c.requires.left)
@@ -61,6 +61,7 @@ raised c =
 pub invariant_of-self : goal.invariant_of-self
 invariant_of-self c = (
   c.self.invariant.0,
+  c.self.invariant.1,
   (raised (goal.at.invariant_of-self c).After-raise).board,
 )
 

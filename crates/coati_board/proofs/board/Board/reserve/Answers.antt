@@ -5,9 +5,10 @@ use Rattle.coati_board.proofs.board.Board.reserve.Goals as goal
 pub invariant_of-self : goal.invariant_of-self
 invariant_of-self c =
     let inside = c.self.inside in
-    let board = c.self.invariant.1 in
+    let board = c.self.invariant.2 in
     let made = c.make_room.ensures in (
       c.self.invariant.0,
+      c.self.invariant.1,
       roomier_board inside.checked inside.mode inside.script inside.device c.make_room.new.device
           board made.same (made.time board.time) made.few
           (made.enough inside.script.power

@@ -25,15 +25,18 @@ stepped c =
     let open_ : end_of inside.device.history.marks ≡ None =
     ap (λ (d : Device). end_of d.history.marks) (device_is c) ∙ c.requires.open in
     step_keeps inside.checked inside.mode inside.script inside.device c.advance.new.device
-    c.self.invariant.1 spare limit open_ c.steps_keep_devices.ensures
+    c.self.invariant.2 spare limit open_ c.steps_keep_devices.ensures
     (subst (λ (code : Bodies). IsStepOf inside.checked code inside.script.power inside.device
     c.advance.new.device) c.self.invariant.0
     (subst (λ (periods : List ℕ). IsStepOf inside.checked inside.code periods inside.device
     c.advance.new.device) c.as_slice.ensures c.advance.ensures))
 
 pub invariant_of-self : goal.invariant_of-self
-invariant_of-self c =
-    (c.self.invariant.0, (stepped (goal.at.invariant_of-self c).After-advance).board)
+invariant_of-self c = (
+  c.self.invariant.0,
+  c.self.invariant.1,
+  (stepped (goal.at.invariant_of-self c).After-advance).board,
+)
 
 pub returns-clause-open : goal.returns-clause-open
 returns-clause-open c = (stepped (goal.at.returns-clause-open c).After-advance).open_still

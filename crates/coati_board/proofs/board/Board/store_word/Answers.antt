@@ -8,7 +8,7 @@ pub returns-clause-store : goal.returns-clause-store
 returns-clause-store c =
     let inside = c.self.inside in
     let past = inside.device.history in
-    let board = c.self.invariant.1 in
+    let board = c.self.invariant.2 in
     let run = runs_serially (terms_of inside.checked inside.mode) past board.sound.legal.legal in
     c.committed.ensures ∙ board.sound.fit.stands.words c.args.word
     ∙ sym (ap (λ (s : Stand). s.store c.args.word) run.stand)

@@ -1,17 +1,17 @@
 -- The names that an accepted program declares: each is a name, and none is declared twice.
-use Rattle.std.proofs.Common.{◌≡◌, ℕ, Bool, true, false, ◌&&◌, List, [], ◌∷◌, ◌++◌, map, Option, Some, None, refl, sym, ap, subst, ◌∙◌, inl, inr, rules}
-use Rattle.std.specs.Prelude.{filter, flat_map, is_some, if◌then◌else◌}
+use Rattle.std.proofs.Common.{◌≡◌, ℕ, Bool, true, false, List, [], ◌∷◌, ◌++◌, map, Option, Some, None, refl, sym, ap, ◌∙◌, inl, inr}
+use Rattle.std.specs.Prelude.{filter, flat_map, is_some}
 use Rattle.std.specs.List.{AllByRecursion, list_all}
 use Rattle.std.specs.Map.{lookup}
 use Rattle.std.specs.Str.{bytes_eq}
 use Rattle.std.proofs.lemmas.Bool.{cases_Bool, and_from, false_from_ne_true, or_left}
 use Rattle.std.proofs.lemmas.Slice.Eq.{bytes_eq-Decides}
-use Rattle.task_check.specs.Mentions.{Mention, Part, Passed, chain, declares, in_turn, mention}
+use Rattle.task_check.specs.Mentions.{Mention, Part, chain, declares, in_turn}
 use Rattle.task_check.specs.NameRules.{is_twice_named, places_where}
-use Rattle.task_check.specs.Scope.{Scope, meaning_of, with_name}
+use Rattle.task_check.specs.Scope.{Scope, meaning_of}
 use Rattle.task_check.proofs.NoPlaces.{none-mapped}
 use Rattle.task_lex.specs.Byte.{is_name_byte, is_name_start}
-use Rattle.task_lex.specs.Token.{IsName, Spells}
+use Rattle.task_lex.specs.Token.{Spells}
 use Rattle.task_lex.specs.declared.token.TokenKind.TheVariants as kind
 use Rattle.task_syntax.specs.declared.name.Name.{Name}
 use Rattle.trace_out.proofs.Fronts.{IsNameText}

@@ -1,5 +1,5 @@
 -- What is read of a text is what it says, or its first bad line.
-use Rattle.std.proofs.Common.{◌≡◌, ◌≢◌, ℕ, zero, suc, ◌+◌, ◌-◌, ◌<◌, ◌≤◌, List, [], ◌∷◌, ◌++◌, map, Option, Some, None, Result, Ok, Err, length, take, drop, replicate, refl, sym, ap, subst, ◌∙◌, arith, append_assoc, inl, inr}
+use Rattle.std.proofs.Common.{◌≡◌, ◌≢◌, ℕ, zero, suc, ◌+◌, ◌<◌, List, [], ◌∷◌, ◌++◌, Option, Some, None, Result, Ok, Err, length, take, drop, replicate, refl, sym, ap, subst, ◌∙◌, arith, append_assoc, inl, inr}
 use Rattle.std.specs.Prelude.{◌⊎◌}
 use Rattle.std.specs.List.{AllByRecursion}
 use Rattle.std.specs.Option.{option_map_or}
@@ -8,26 +8,25 @@ use Rattle.std.proofs.lemmas.List.{append-nil, length-append, length-replicate, 
 use Rattle.std.proofs.lemmas.Option.{none-some, same_Some}
 use Rattle.coati_text.specs.Line.{line_feed, lines_of}
 use Rattle.coati_word.specs.declared.mode.Mode.{Mode}
-use Rattle.coati_word.specs.declared.mode.Mode.TheVariants.{Split, Buffi}
-use Rattle.serial_log.specs.declared.end.End.TheVariants as end
+use Rattle.coati_word.specs.declared.mode.Mode.TheVariants.{Split}
 use Rattle.serial_log.specs.declared.printed.Printed.{Printed}
 use Rattle.task_syntax.specs.declared.program.Program.{Program}
 use Rattle.task_syntax.specs.declared.program.Var.{Var}
-use Rattle.task_syntax.specs.Names.{count_of, word_count}
+use Rattle.task_syntax.specs.Names.{word_count}
 use Rattle.trace_out.specs.declared.fault.PrintFault.{PrintFault}
-use Rattle.trace_out.specs.declared.fault.PrintFault.TheVariants.{BadLine, OutOfMemory}
+use Rattle.trace_out.specs.declared.fault.PrintFault.TheVariants.{BadLine}
 use Rattle.trace_out.specs.declared.stage.Stage.{Stage}
 use Rattle.trace_out.specs.declared.stage.Stage.TheVariants.{Nothing, Headed, Marked, Valued, Whole}
 use Rattle.trace_out.specs.Front.{◌>>=◌}
-use Rattle.trace_out.specs.Printed.{Begins, Breaks, IsBadLine, IsPrintable, PrintedText, bound_line, held_line, lines_before_end, lines_before_held, mode_line, printed_lines, printed_text, text_of, variable_lines}
+use Rattle.trace_out.specs.Printed.{Begins, Breaks, IsBadLine, PrintedText, bound_line, held_line, lines_before_end, lines_before_held, mode_line, printed_lines, text_of, variable_lines}
 use Rattle.trace_out.specs.Reading.{behind_line, ended_at, headed, lines_reading, reading}
 use Rattle.trace_out.specs.Shown.{end_line}
-use Rattle.trace_out.proofs.Binds.{Bound, bound}
+use Rattle.trace_out.proofs.Binds.{bound}
 use Rattle.trace_out.proofs.Ends.{lines_of-text, text-of-lines}
 use Rattle.trace_out.proofs.FrameReads.{IsValue}
 use Rattle.trace_out.proofs.InnerLines.{printed-ends, printed-inner}
 use Rattle.trace_out.proofs.Layouts.{variable_lines-append, word_count-append}
-use Rattle.trace_out.proofs.Stages.{IsMarked, IsStage, IsValued, all-joined, shown_lines, take-all}
+use Rattle.trace_out.proofs.Stages.{IsStage, IsValued, all-joined, shown_lines, take-all}
 use Rattle.trace_out.proofs.UnitReads.{IsNamed}
 use Rattle.trace_out.proofs.Walks.{lines-led, walk, walk-behind, walk-shown}
 

@@ -1,5 +1,5 @@
 -- The lines before and behind those of marks: what was read of a line, and that it is read again.
-use Rattle.std.proofs.Common.{◌≡◌, ℕ, zero, suc, ◌+◌, ◌<◌, ◌≤◌, ◌^◌, true, false, List, [], ◌∷◌, ◌++◌, Option, Some, None, length, refl, sym, ap, subst, ◌∙◌, inl, inr, arith, append_assoc}
+use Rattle.std.proofs.Common.{◌≡◌, ℕ, zero, suc, ◌≤◌, List, [], ◌∷◌, ◌++◌, Some, None, length, refl, sym, ap, subst, ◌∙◌, inl, inr, arith, append_assoc}
 use Rattle.std.specs.Prelude.{codes, flat_map}
 use Rattle.std.specs.Fmt.{decimal}
 use Rattle.std.specs.List.{AllByRecursion}
@@ -17,11 +17,11 @@ use Rattle.serial_log.specs.declared.line.Line.TheVariants as line
 use Rattle.task_syntax.specs.declared.program.Program.{Program}
 use Rattle.task_syntax.specs.declared.program.Var.{Var}
 use Rattle.task_syntax.specs.Names.{count_of}
-use Rattle.trace_out.specs.Front.{◌>>=◌, alone, behind, last_number, number_at}
-use Rattle.trace_out.specs.LineReading.{bound_in, end_in, held_in, in_front, mode_in, value_at, values_at, values_in, values_text}
+use Rattle.trace_out.specs.Front.{behind}
+use Rattle.trace_out.specs.LineReading.{bound_in, end_in, held_in, mode_in, value_at, values_at, values_in, values_text}
 use Rattle.trace_out.specs.Printed.{bound_line, greatest_number, greatest_value, held_line, mode_line, value_text, variable_line}
 use Rattle.trace_out.specs.Shown.{end_line}
-use Rattle.trace_out.proofs.Binds.{Bound, bound, Made, made}
+use Rattle.trace_out.proofs.Binds.{bound, made}
 use Rattle.trace_out.proofs.Fronts.{alone-parts, behind-again, behind-parts, last_number-again, last_number-parts, number_at-again, number_at-parts}
 use Rattle.trace_out.proofs.MarkReads.{own_text}
 

@@ -1,11 +1,11 @@
 -- Words, numbers and names at the front of a text.
-use Rattle.std.proofs.Common.{◌≡◌, ℕ, ◌+◌, ◌<◌, ◌≤◌, ◌^◌, true, false, List, [], ◌∷◌, ◌++◌, Option, Some, None, Result, Ok, Err, length, take, drop, refl, sym, ap, ◌∙◌, inl, inr, arith}
+use Rattle.std.proofs.Common.{◌≡◌, ℕ, ◌<◌, ◌≤◌, ◌^◌, true, false, List, [], ◌∷◌, ◌++◌, Some, None, Result, Ok, Err, length, take, drop, refl, sym, ap, ◌∙◌, inl, inr, arith}
 use Rattle.std.specs.Prelude.{nat_le}
 use Rattle.std.specs.Fmt.{decimal}
-use Rattle.std.specs.List.{list_all, prefix_len}
+use Rattle.std.specs.List.{list_all}
 use Rattle.std.specs.Str.{bytes_eq}
 use Rattle.std.specs.Str.Parse.{digits_value}
-use Rattle.std.proofs.lemmas.Bool.{cases_Bool, and_parts, leb-true}
+use Rattle.std.proofs.lemmas.Bool.{cases_Bool, leb-true}
 use Rattle.std.proofs.lemmas.List.{append-nil, append_cancel_left, take-append-drop, take_at, drop_at}
 use Rattle.std.proofs.lemmas.Slice.Eq.{bytes_eq-Decides}
 use Rattle.coati_text.specs.Decimal.{decimal_at, digit_count, digit_run, is_decimal, number_of}
@@ -14,8 +14,8 @@ use Rattle.coati_text.specs.declared.cursor.NumFault.TheVariants.{NotDecimal, To
 use Rattle.coati_text.proofs.DigitRuns.{decimal_at-decimal, decimal_at-split}
 use Rattle.task_lex.specs.Byte.{begins, is_name_byte}
 use Rattle.task_lex.proofs.Runs.{prefix_len-word}
-use Rattle.trace_out.specs.Front.{◌>>=◌, alone, behind, behind_name, last_number, name_at, name_len, number_at, number_read}
-use Rattle.trace_out.proofs.Binds.{Bound, bound, Made, made}
+use Rattle.trace_out.specs.Front.{alone, behind, behind_name, last_number, name_at, name_len, number_at}
+use Rattle.trace_out.proofs.Binds.{bound}
 
 -- a word that was found
 pub behind-parts : (word text rest : List ℕ) → behind word text ≡ Some rest → text ≡ word ++ rest

@@ -1,6 +1,6 @@
 -- No byte of a printed line ends it.
-use Rattle.std.proofs.Common.{◌≡◌, ◌≢◌, ℕ, zero, suc, ◌+◌, ◌<◌, ◌≤◌, ◌^◌, ◌-◌, Bool, true, false, ◌&&◌, not, List, [], ◌∷◌, ◌++◌, Option, Some, None, length, map, take, drop, refl, sym, ap, subst, ◌∙◌, inl, inr, arith, rules}
-use Rattle.std.specs.Prelude.{◌==◌, codes, flat_map, nat_le}
+use Rattle.std.proofs.Common.{◌≡◌, ◌≢◌, ℕ, zero, suc, ◌<◌, ◌≤◌, ◌^◌, ◌-◌, true, false, List, [], ◌∷◌, ◌++◌, Option, Some, None, length, map, take, drop, refl, sym, subst, inl, inr, arith, rules}
+use Rattle.std.specs.Prelude.{codes, flat_map, nat_le}
 use Rattle.std.specs.Char.{is_ascii_digit}
 use Rattle.std.specs.Fmt.{decimal}
 use Rattle.std.specs.List.{AllByRecursion, list_all}
@@ -14,7 +14,6 @@ use Rattle.coati_text.specs.Line.{line_feed}
 use Rattle.coati_word.specs.declared.mode.Mode.{Mode}
 use Rattle.coati_word.specs.declared.mode.Mode.TheVariants.{Split, Buffi}
 use Rattle.coati_word.specs.declared.reading.Reading.{Reading}
-use Rattle.serial_log.specs.declared.abort.AbortOf.{AbortOf}
 use Rattle.serial_log.specs.declared.end.End.{End}
 use Rattle.serial_log.specs.declared.end.End.TheVariants as end
 use Rattle.serial_log.specs.declared.line.Line.{Line}
@@ -32,13 +31,14 @@ use Rattle.task_syntax.specs.declared.program.Program.{Program}
 use Rattle.task_syntax.specs.declared.program.Var.{Var}
 use Rattle.task_syntax.specs.Names.{count_of, tasks, word_count}
 use Rattle.trace_out.specs.Names.{event_name, index_text, name_of_task, name_of_transaction, word_text}
-use Rattle.trace_out.specs.Printed.{HasUnit, IsAbort, IsAnswerInRange, IsCounted, IsLine, IsPost, IsPrintable, IsReading, IsRecord, bound_line, greatest_number, held_line, lines_before_end, lines_before_held, mode_line, printed_lines, value_text, variable_line, variable_lines}
-use Rattle.trace_out.specs.Shown.{abort_line, answer_text, boot_line, commit_line, count_text, end_line, line_text, post_line, raised_text, reading_text, unit_text}
-use Rattle.trace_out.specs.Words.{word_and_number}
+use Rattle.trace_out.specs.Printed.{HasUnit, IsAnswerInRange, IsCounted, IsLine, IsPost, IsPrintable, IsReading, held_line, lines_before_end, lines_before_held, mode_line, printed_lines, value_text, variable_lines}
+use Rattle.trace_out.specs.Shown.{answer_text, count_text, end_line, line_text, raised_text, reading_text, unit_text}
+use Rattle.trace_out.specs.Lines.{word_and_number}
 use Rattle.trace_out.proofs.Ends.{AreInner, EndsSome, IsInner, inner-append, is_inner}
 use Rattle.trace_out.proofs.FrameReads.{IsValue}
 use Rattle.trace_out.proofs.Fronts.{IsNameText}
-use Rattle.trace_out.proofs.Layouts.{line_text-own, own_readings}
+use Rattle.trace_out.specs.ShownRun.{own_readings}
+use Rattle.trace_out.proofs.Layouts.{line_text-own}
 use Rattle.trace_out.proofs.MarkReads.{own_text}
 use Rattle.trace_out.proofs.Places.{name_of_event, text_at, text_at-named}
 use Rattle.trace_out.proofs.Stages.{all-joined}

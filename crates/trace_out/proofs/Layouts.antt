@@ -1,8 +1,7 @@
 -- How the lines of a printed text follow one another: marks with their readings, and variables
 -- with their values.
-use Rattle.std.proofs.Common.{◌≡◌, ℕ, zero, suc, ◌+◌, ◌-◌, ◌<◌, ◌≤◌, List, [], ◌∷◌, ◌++◌, map, Option, Some, None, length, take, drop, refl, sym, ap, subst, ◌∙◌, arith, append_assoc}
-use Rattle.std.specs.List.{AllByRecursion}
-use Rattle.std.proofs.lemmas.List.{append-nil, length-append, length-take, length-drop, take-append-drop, take-append-le, drop-append-le, take_at, drop_at}
+use Rattle.std.proofs.Common.{◌≡◌, ℕ, ◌+◌, ◌≤◌, List, [], ◌∷◌, ◌++◌, map, length, take, drop, refl, sym, ap, subst, ◌∙◌, arith}
+use Rattle.std.proofs.lemmas.List.{append-nil, length-drop, take-append-le, drop-append-le, take_at, drop_at}
 use Rattle.coati_word.specs.declared.reading.Reading.{Reading}
 use Rattle.serial_log.specs.declared.line.Line.{Line}
 use Rattle.serial_log.specs.declared.line.Line.TheVariants as line
@@ -11,14 +10,10 @@ use Rattle.serial_log.specs.History.{readings_in}
 use Rattle.task_syntax.specs.declared.program.Program.{Program}
 use Rattle.task_syntax.specs.declared.program.Var.{Var}
 use Rattle.task_syntax.specs.Names.{count_of, word_count}
-use Rattle.trace_out.specs.Printed.{AreInOrder, IsReading, variable_line, variable_lines}
+use Rattle.trace_out.specs.Printed.{AreInOrder, variable_line, variable_lines}
 use Rattle.trace_out.specs.Shown.{line_text}
+use Rattle.trace_out.specs.ShownRun.{count_in, own_readings}
 use Rattle.trace_out.proofs.MarkReads.{IsPlaced, own_text}
-
--- the readings of a line among all
-abbrev pub own_readings : List Reading → Line → List Reading
-own_readings all (line.Commit committed) = readings_in all committed
-own_readings all _ = []
 
 -- a line shows its own readings
 pub line_text-own : (program : Program) (all : List Reading) (shown : Line)
@@ -27,11 +22,6 @@ line_text-own program all (line.Boot number at) = refl
 line_text-own program all (line.Post at posted) = refl
 line_text-own program all (line.Commit committed) = refl
 line_text-own program all (line.Abort aborted) = refl
-
--- how many readings a line has
-abbrev pub count_in : Line → ℕ
-count_in (line.Commit committed) = committed.reads_len
-count_in _ = 0
 
 -- lines in order end no earlier than they begin
 pub order-rises : (from end : ℕ) (lines : List Line) → AreInOrder from lines end → from ≤ end

@@ -1,16 +1,16 @@
 -- What is read of a text takes bytes of it.
-use Rattle.std.proofs.Common.{◌≡◌, ℕ, zero, suc, ◌+◌, ◌-◌, ◌<◌, ◌≤◌, List, [], ◌∷◌, ◌++◌, Option, Some, None, Result, Ok, Err, length, drop, refl, sym, ap, ◌∙◌, arith}
+use Rattle.std.proofs.Common.{◌≡◌, ℕ, zero, suc, ◌+◌, ◌-◌, ◌<◌, ◌≤◌, List, [], ◌∷◌, Option, Some, None, length, drop, refl, ap, ◌∙◌, arith}
 use Rattle.std.specs.Prelude.{codes}
 use Rattle.std.proofs.lemmas.List.{length-append, length-drop}
 use Rattle.std.proofs.lemmas.Option.{same_Some}
 use Rattle.coati_text.specs.Decimal.{decimal_at, digit_count}
 use Rattle.coati_word.specs.declared.reading.Reading.{Reading}
 use Rattle.task_syntax.specs.declared.program.Program.{Program}
-use Rattle.task_syntax.specs.Names.{Words, words_of}
-use Rattle.trace_out.specs.Front.{◌>>=◌, behind, behind_name, name_at, name_len, number_at, number_read}
+use Rattle.task_syntax.specs.Names.{words_of}
+use Rattle.trace_out.specs.Front.{behind, behind_name, name_at, name_len, number_at, number_read}
 use Rattle.trace_out.specs.LineReading.{in_front, reading_at, readings_in, readings_within}
 use Rattle.trace_out.specs.Lookups.{index_at, word_among, word_at}
-use Rattle.trace_out.proofs.Binds.{Bound, bound, Made, made}
+use Rattle.trace_out.proofs.Binds.{bound, made}
 use Rattle.trace_out.proofs.Fronts.{behind-parts}
 
 behind-shorter : (word text rest : List ℕ) → behind word text ≡ Some rest → length text

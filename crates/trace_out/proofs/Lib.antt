@@ -4,6 +4,7 @@ pub mod Ends
 pub mod Faults
 pub mod FrameReads
 pub mod Fronts
+pub mod HeldCounts
 pub mod InnerLines
 pub mod Layouts
 pub mod Lengths
@@ -11,9 +12,13 @@ pub mod LineLengths
 pub mod Lists
 pub mod MarkReads
 pub mod Named
+pub mod NamesAt
 pub mod Places
 pub mod ReadingReads
+pub mod RunTexts
+pub mod SerialTexts
 pub mod Stages
 pub mod UnitReads
+pub mod Values
 pub mod Walks
 pub mod WordPlaces

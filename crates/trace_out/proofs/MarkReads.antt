@@ -1,9 +1,8 @@
 -- Lines that show marks: what was read of a line, and that it is read again.
-use Rattle.std.proofs.Common.{◌≡◌, ℕ, ◌+◌, ◌<◌, ◌≤◌, ◌^◌, true, false, List, [], ◌∷◌, ◌++◌, map, Option, Some, None, length, refl, sym, ap, subst, ◌∙◌, inl, inr, arith, append_assoc}
+use Rattle.std.proofs.Common.{◌≡◌, ℕ, ◌<◌, ◌≤◌, List, [], ◌++◌, Some, None, length, refl, sym, ap, subst, ◌∙◌, inl, inr, arith, append_assoc}
 use Rattle.std.specs.Prelude.{codes, flat_map}
 use Rattle.std.specs.Fmt.{decimal}
 use Rattle.std.specs.List.{AllByRecursion}
-use Rattle.std.specs.Option.{option_map}
 use Rattle.std.specs.Str.{bytes_eq}
 use Rattle.std.proofs.lemmas.Bool.{cases_Bool}
 use Rattle.std.proofs.lemmas.List.{append-nil}
@@ -23,14 +22,14 @@ use Rattle.serial_log.specs.declared.unit.Unit.TheVariants as unit
 use Rattle.task_syntax.specs.declared.program.Program.{Program}
 use Rattle.trace_out.specs.declared.raised.Raised.{Raised}
 use Rattle.trace_out.specs.declared.shown.Shown.{Shown}
-use Rattle.trace_out.specs.Front.{◌>>=◌, alone, behind, last_number, number_at}
+use Rattle.trace_out.specs.Front.{behind, last_number, number_at}
 use Rattle.trace_out.specs.LineReading.{abort_in, answer_in, boot_in, commit_in, mark_in, of_tasks, plain_in, post_in, posted_of, posting_at, raised_at, readings_in, record_at, shown_commit, shown_plain, tasks_at, unit_at}
 use Rattle.trace_out.specs.Lookups.{event_at, word_at}
 use Rattle.trace_out.specs.Names.{event_name, word_text}
-use Rattle.trace_out.specs.Printed.{HasUnit, IsAbort, IsAnswerInRange, IsLine, IsOfTasks, IsPost, IsReading, IsRecord, greatest_device, greatest_number, greatest_value}
-use Rattle.trace_out.specs.Shown.{abort_line, answer_text, boot_line, commit_line, post_line, raised_text, reading_text, count_text, unit_text}
-use Rattle.trace_out.specs.Words.{word_and_number}
-use Rattle.trace_out.proofs.Binds.{Bound, bound, Made, made, Taken, Passed, chosen}
+use Rattle.trace_out.specs.Printed.{IsAbort, IsAnswerInRange, IsLine, IsOfTasks, IsPost, IsReading, IsRecord, greatest_device, greatest_number, greatest_value}
+use Rattle.trace_out.specs.Shown.{abort_line, answer_text, boot_line, commit_line, post_line, reading_text, count_text, unit_text}
+use Rattle.trace_out.specs.Lines.{word_and_number}
+use Rattle.trace_out.proofs.Binds.{bound, made, chosen}
 use Rattle.trace_out.proofs.Fronts.{alone-parts, behind-again, behind-parts, last_number-again, last_number-parts, number_at-again, number_at-parts}
 use Rattle.trace_out.proofs.ReadingReads.{readings_in-again, readings_in-parts}
 use Rattle.trace_out.proofs.UnitReads.{IsNamed, bare, event_at-again, event_at-parts, posting_at-again, posting_at-parts, record_at-again, record_at-parts, record_text, tasks_at-again, tasks_at-parts, unit_at-again, unit_at-parts}

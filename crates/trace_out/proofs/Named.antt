@@ -1,7 +1,6 @@
 -- The names of an accepted program are names, each its own.
-use Rattle.std.proofs.Common.{◌≡◌, ℕ, ◌<◌, ◌≤◌, List, [], ◌∷◌, ◌++◌, map, refl, sym, ap, subst, ◌∙◌, arith}
-use Rattle.std.specs.Prelude.{All, flat_map}
-use Rattle.std.specs.List.{AllByRecursion}
+use Rattle.std.proofs.Common.{◌≡◌, ℕ, ◌<◌, List, [], ◌∷◌, ◌++◌, map, refl, sym, ap, subst, arith}
+use Rattle.std.specs.Prelude.{flat_map}
 use Rattle.std.proofs.lemmas.List.{append-nil, map-append}
 use Rattle.std.proofs.lemmas.List.Elements.{recursion_from_All}
 use Rattle.task_check.specs.Accepted.{IsAccepted}
@@ -11,17 +10,15 @@ use Rattle.task_check.specs.WellFormed.{IsWellFormed}
 use Rattle.task_check.proofs.SizesHold.{sizes}
 use Rattle.task_lex.specs.Token.{Spells}
 use Rattle.task_lex.specs.declared.token.TokenKind.TheVariants as kind
-use Rattle.task_syntax.specs.declared.program.Event.{Event}
 use Rattle.task_syntax.specs.declared.program.Program.{Program}
 use Rattle.task_syntax.specs.declared.program.TaskDecl.{TaskDecl}
-use Rattle.task_syntax.specs.declared.program.TxDecl.{TxDecl}
 use Rattle.task_syntax.specs.declared.program.UnitDecl.{UnitDecl}
 use Rattle.task_syntax.specs.declared.program.UnitDecl.TheVariants.{Lone, Tx}
 use Rattle.task_syntax.specs.declared.program.Var.{Var}
-use Rattle.task_syntax.specs.Names.{count_of, tasks, tasks_of_unit, word_count}
+use Rattle.task_syntax.specs.Names.{count_of, tasks, tasks_of_unit}
 use Rattle.trace_out.specs.Names.{name_of_task, name_of_transaction}
 use Rattle.trace_out.proofs.Declared.{Among, IsSound, Tells, all-front, among-all, among-joined, among-nothing, chain-tells, declares-tells, in_turn-tells, kept, mentions-sound, names-among, passed}
-use Rattle.trace_out.proofs.Places.{AreNames, name_of_event}
+use Rattle.trace_out.proofs.Places.{name_of_event}
 use Rattle.trace_out.proofs.UnitReads.{IsNamed}
 use Rattle.trace_out.proofs.WordPlaces.{name_of_var}
 

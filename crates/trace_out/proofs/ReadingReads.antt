@@ -1,28 +1,23 @@
 -- Readings and values in a line: what was read of a text, and that it is read again.
-use Rattle.std.proofs.Common.{◌≡◌, ℕ, zero, suc, ◌+◌, ◌-◌, ◌<◌, ◌≤◌, ◌^◌, true, false, List, [], ◌∷◌, ◌++◌, map, Option, Some, None, length, refl, sym, ap, subst, ◌∙◌, inl, inr, arith, append_assoc}
+use Rattle.std.proofs.Common.{◌≡◌, ℕ, zero, suc, List, [], ◌∷◌, ◌++◌, Some, length, refl, ap, subst, ◌∙◌, arith, append_assoc}
 use Rattle.std.specs.Prelude.{codes, flat_map}
 use Rattle.std.specs.Fmt.{decimal}
 use Rattle.std.specs.List.{AllByRecursion}
-use Rattle.std.specs.Option.{option_map}
-use Rattle.std.proofs.lemmas.List.{append-nil, length-append}
 use Rattle.std.proofs.lemmas.Option.{same_Some}
 use Rattle.coati_text.specs.Decimal.{digit_count}
 use Rattle.coati_word.specs.declared.reading.Reading.{Reading}
-use Rattle.task_lex.specs.Byte.{begins, is_name_byte}
 use Rattle.task_syntax.specs.declared.program.Program.{Program}
-use Rattle.task_syntax.specs.declared.program.Var.{Var}
-use Rattle.task_syntax.specs.Names.{count_of, word_count}
-use Rattle.trace_out.specs.Front.{◌>>=◌, alone, behind, number_at}
-use Rattle.trace_out.specs.LineReading.{in_front, reading_at, readings_in, readings_within, value_at, values_at, values_in, values_text}
+use Rattle.trace_out.specs.Front.{behind, number_at}
+use Rattle.trace_out.specs.LineReading.{in_front, reading_at, readings_in, readings_within}
 use Rattle.trace_out.specs.Lookups.{word_at}
 use Rattle.trace_out.specs.Names.{word_text}
-use Rattle.trace_out.specs.Printed.{IsReading, greatest_value, value_text, variable_line}
+use Rattle.trace_out.specs.Printed.{IsReading, greatest_value}
 use Rattle.trace_out.specs.Shown.{reading_text}
-use Rattle.trace_out.proofs.Binds.{Bound, bound, Made, made}
+use Rattle.trace_out.proofs.Binds.{bound, made}
 use Rattle.trace_out.proofs.Fronts.{behind-again, behind-parts, number_at-again, number_at-parts}
 use Rattle.trace_out.proofs.Lengths.{readings_in-more, readings_in-nil}
 use Rattle.trace_out.proofs.UnitReads.{IsNamed}
-use Rattle.trace_out.proofs.WordPlaces.{IsWordRead, word_at-again, word_at-parts}
+use Rattle.trace_out.proofs.WordPlaces.{word_at-again, word_at-parts}
 
 -- a reading that was read of a text
 pub record IsReadingRead (program : Program) (text : List ℕ) (x : Reading × List ℕ) : Type 0 where

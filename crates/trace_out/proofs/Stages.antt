@@ -1,28 +1,22 @@
 -- How far lines have got: what they have shown, and how they go on.
-use Rattle.std.proofs.Common.{◌≡◌, ◌≢◌, ℕ, zero, suc, ◌+◌, ◌<◌, ◌≤◌, ◌^◌, true, false, List, [], ◌∷◌, ◌++◌, map, Option, Some, None, length, take, drop, refl, sym, ap, subst, ◌∙◌, inl, inr, arith, append_assoc, replicate}
+use Rattle.std.proofs.Common.{◌≡◌, ℕ, zero, suc, ◌+◌, ◌≤◌, List, [], ◌∷◌, ◌++◌, map, Some, None, length, take, refl, sym, ap, subst, ◌∙◌, inl, inr, arith, append_assoc}
 use Rattle.std.specs.Prelude.{slice_get}
 use Rattle.std.specs.List.{AllByRecursion}
-use Rattle.std.proofs.Math.Seq.{take-add}
-use Rattle.std.proofs.lemmas.List.{append-nil, length-append, length-take, length-drop, length-replicate, map-append, take-append-drop, take_at}
-use Rattle.std.proofs.lemmas.Option.{same_Some, slice_get_past, slice_get_within}
-use Rattle.coati_word.specs.declared.mode.Mode.{Mode}
-use Rattle.coati_word.specs.declared.mode.Mode.TheVariants.{Split, Buffi}
-use Rattle.coati_word.specs.declared.reading.Reading.{Reading}
+use Rattle.std.proofs.lemmas.List.{append-nil, length-append, map-append, take_at}
+use Rattle.std.proofs.lemmas.Option.{same_Some, slice_get_within}
 use Rattle.serial_log.specs.declared.end.End.{End}
-use Rattle.serial_log.specs.declared.end.End.TheVariants as end
-use Rattle.serial_log.specs.declared.line.Line.{Line}
 use Rattle.serial_log.specs.declared.printed.Printed.{Printed}
 use Rattle.task_syntax.specs.declared.program.Program.{Program}
 use Rattle.task_syntax.specs.declared.program.Var.{Var}
-use Rattle.task_syntax.specs.Names.{count_of, word_count}
+use Rattle.task_syntax.specs.Names.{word_count}
 use Rattle.trace_out.specs.declared.shown.Shown.{Shown}
 use Rattle.trace_out.specs.declared.stage.Stage.{Stage}
 use Rattle.trace_out.specs.declared.stage.Stage.TheVariants.{Nothing, Headed, Marked, Valued, Whole}
 use Rattle.trace_out.specs.LineReading.{bound_in, end_in, held_in, mark_in, mode_in, values_in}
-use Rattle.trace_out.specs.Printed.{AreInOrder, Begins, IsLine, IsPrintable, IsReading, bound_line, greatest_number, held_line, lines_before_end, lines_before_held, mode_line, printed_lines, variable_line, variable_lines}
-use Rattle.trace_out.specs.Reading.{behind_line, behind_mark, behind_values, headed, with_shown}
+use Rattle.trace_out.specs.Printed.{AreInOrder, IsLine, IsPrintable, IsReading, bound_line, greatest_number, held_line, lines_before_end, lines_before_held, mode_line, printed_lines, variable_lines}
+use Rattle.trace_out.specs.Reading.{behind_line, with_shown}
 use Rattle.trace_out.specs.Shown.{end_line, line_text}
-use Rattle.trace_out.proofs.Binds.{Made, made, Taken, Passed, chosen}
+use Rattle.trace_out.proofs.Binds.{made, chosen}
 use Rattle.trace_out.proofs.FrameReads.{IsValue, bound_in-parts, end_in-parts, held_in-parts, mode_in-parts, values_in-parts}
 use Rattle.trace_out.proofs.Layouts.{line-added, lines-stay, order-more, variable_lines-append, variable_lines-one, word_count-append}
 use Rattle.trace_out.proofs.MarkReads.{mark_in-parts}

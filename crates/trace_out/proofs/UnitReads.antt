@@ -1,5 +1,5 @@
 -- Units in a line: what was read of a text, and that it is read again.
-use Rattle.std.proofs.Common.{◌≡◌, ℕ, ◌+◌, ◌<◌, ◌≤◌, ◌^◌, true, false, List, [], ◌∷◌, ◌++◌, map, Option, Some, None, length, refl, sym, ap, subst, ◌∙◌, inl, inr, arith, append_assoc}
+use Rattle.std.proofs.Common.{◌≡◌, ℕ, ◌+◌, ◌<◌, ◌≤◌, false, List, ◌++◌, map, Option, Some, None, length, refl, sym, ap, subst, ◌∙◌, inl, inr, arith}
 use Rattle.std.specs.Prelude.{codes, nat_le}
 use Rattle.std.specs.Fmt.{decimal}
 use Rattle.std.proofs.lemmas.Bool.{cases_Bool, le-leb, leb-true}
@@ -14,16 +14,16 @@ use Rattle.task_syntax.specs.declared.program.Program.{Program}
 use Rattle.task_syntax.specs.Names.{task_of, tasks}
 use Rattle.std.proofs.lemmas.Option.{same_Some}
 use Rattle.coati_text.specs.Decimal.{digit_count}
-use Rattle.trace_out.specs.Front.{◌>>=◌, behind, behind_name, name_at, number_at}
-use Rattle.trace_out.specs.LineReading.{counted_at, found, posting_at, record_at, record_of, some_tasks, tasks_at, unit_at}
+use Rattle.trace_out.specs.Front.{behind, behind_name, name_at, number_at}
+use Rattle.trace_out.specs.LineReading.{counted_at, found, posting_at, record_at, record_of, tasks_at, unit_at}
 use Rattle.trace_out.specs.Lookups.{event_at, named_at, task_at, transaction_at, transaction_of}
 use Rattle.trace_out.specs.Names.{name_of_task, name_of_transaction}
 use Rattle.trace_out.specs.Printed.{HasUnit, IsCounted, IsRecord, IsTaskCount, greatest_number}
 use Rattle.trace_out.specs.Shown.{count_text, unit_text}
-use Rattle.trace_out.specs.Words.{word_and_number}
-use Rattle.trace_out.proofs.Binds.{Bound, bound, Made, made, Taken, Passed, chosen}
+use Rattle.trace_out.specs.Lines.{word_and_number}
+use Rattle.trace_out.proofs.Binds.{bound, made, chosen}
 use Rattle.trace_out.proofs.Fronts.{behind-again, behind-parts, behind_name-again, name_at-again, name_at-split, number_at-again, number_at-parts}
-use Rattle.trace_out.proofs.Places.{AreNames, IsPlaced, events-placed, name_of_event, place_from, place_from-again, place_from-parts, tasks-placed, text_at, text_at-named, transactions-placed}
+use Rattle.trace_out.proofs.Places.{AreNames, events-placed, name_of_event, place_from, place_from-again, place_from-parts, tasks-placed, text_at, text_at-named, transactions-placed}
 use Rattle.trace_out.proofs.WordPlaces.{HasWords, name_of_var}
 
 -- the names of a program are names, each its own, and no array is empty

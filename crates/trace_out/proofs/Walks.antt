@@ -1,12 +1,11 @@
 -- Lines that are read from stage to stage, and that the lines of a printable text lead to its end.
-use Rattle.std.proofs.Common.{◌≡◌, ℕ, zero, suc, ◌+◌, ◌<◌, ◌≤◌, List, [], ◌∷◌, ◌++◌, map, Option, Some, None, length, take, drop, refl, sym, ap, subst, ◌∙◌, arith, append_assoc}
+use Rattle.std.proofs.Common.{◌≡◌, ℕ, zero, suc, ◌+◌, ◌≤◌, List, [], ◌∷◌, ◌++◌, map, Option, Some, None, length, take, drop, refl, sym, ap, subst, ◌∙◌, arith, append_assoc}
 use Rattle.std.specs.Prelude.{slice_get}
 use Rattle.std.specs.List.{AllByRecursion}
 use Rattle.std.proofs.Math.Seq.{take-add}
 use Rattle.std.proofs.lemmas.List.{append-nil, length-append, length-take, length-drop, take-append-drop}
 use Rattle.std.proofs.lemmas.Option.{same_Some, slice_get_past}
 use Rattle.coati_word.specs.declared.reading.Reading.{Reading}
-use Rattle.serial_log.specs.declared.end.End.{End}
 use Rattle.serial_log.specs.declared.end.End.TheVariants as end
 use Rattle.serial_log.specs.declared.line.Line.{Line}
 use Rattle.serial_log.specs.declared.line.Line.TheVariants as line
@@ -15,15 +14,16 @@ use Rattle.task_syntax.specs.declared.program.Program.{Program}
 use Rattle.task_syntax.specs.declared.program.Var.{Var}
 use Rattle.task_syntax.specs.Names.{count_of, word_count}
 use Rattle.trace_out.specs.declared.stage.Stage.{Stage}
-use Rattle.trace_out.specs.declared.stage.Stage.TheVariants.{Nothing, Headed, Marked, Valued, Whole}
+use Rattle.trace_out.specs.declared.stage.Stage.TheVariants.{Nothing, Marked, Valued, Whole}
 use Rattle.trace_out.specs.Front.{◌>>=◌}
-use Rattle.trace_out.specs.LineReading.{end_in, held_in, mark_in, values_in}
-use Rattle.trace_out.specs.Printed.{AreInOrder, IsLine, IsPrintable, IsReading, bound_line, held_line, lines_before_end, lines_before_held, mode_line, printed_lines, variable_line, variable_lines}
-use Rattle.trace_out.specs.Reading.{behind_line, headed, with_shown}
+use Rattle.trace_out.specs.LineReading.{mark_in}
+use Rattle.trace_out.specs.Printed.{AreInOrder, IsLine, IsPrintable, IsReading, held_line, lines_before_end, lines_before_held, printed_lines, variable_line, variable_lines}
+use Rattle.trace_out.specs.Reading.{behind_line}
 use Rattle.trace_out.specs.Shown.{end_line, line_text}
-use Rattle.trace_out.proofs.Binds.{Bound, bound}
+use Rattle.trace_out.proofs.Binds.{bound}
 use Rattle.trace_out.proofs.FrameReads.{IsValue, bound_in-again, end_in-again, end_in-mark, held_in-again, mode_in-again, values_in-again}
-use Rattle.trace_out.proofs.Layouts.{count_in, line_text-own, order-first, order-rises, own_readings}
+use Rattle.trace_out.specs.ShownRun.{count_in, own_readings}
+use Rattle.trace_out.proofs.Layouts.{line_text-own, order-first, order-rises}
 use Rattle.trace_out.proofs.Lists.{nil_from_length}
 use Rattle.trace_out.proofs.MarkReads.{IsPlaced, mark_in-again, own_text}
 use Rattle.trace_out.proofs.Stages.{IsStage, next-shown, shown_lines, take-all}

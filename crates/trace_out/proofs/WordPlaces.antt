@@ -1,12 +1,10 @@
 -- Variable words: their texts, and the words that are found of a text.
-use Rattle.std.proofs.Common.{◌≡◌, ℕ, ◌+◌, ◌-◌, ◌<◌, ◌≤◌, ◌^◌, true, false, List, [], ◌∷◌, ◌++◌, map, Option, Some, None, length, refl, sym, ap, subst, ◌∙◌, inl, inr, arith, append_assoc}
-use Rattle.std.specs.Prelude.{codes, nat_le, if◌then◌else◌}
+use Rattle.std.proofs.Common.{◌≡◌, ℕ, ◌+◌, ◌-◌, ◌<◌, ◌≤◌, true, false, List, [], ◌∷◌, ◌++◌, map, Option, Some, None, refl, sym, ap, subst, ◌∙◌, inl, inr, arith, append_assoc}
+use Rattle.std.specs.Prelude.{codes, nat_le}
 use Rattle.std.specs.Fmt.{decimal}
 use Rattle.std.specs.List.{AllByRecursion}
-use Rattle.std.specs.Option.{option_map}
 use Rattle.std.specs.Str.{bytes_eq}
 use Rattle.std.proofs.lemmas.Bool.{cases_Bool, le-leb, leb-false, leb-true, false_from_ne_true}
-use Rattle.std.proofs.lemmas.List.{append-nil}
 use Rattle.std.proofs.lemmas.Slice.Eq.{bytes_eq-Decides}
 use Rattle.task_lex.specs.Byte.{begins, is_name_byte}
 use Rattle.task_syntax.specs.declared.program.Program.{Program}
@@ -15,9 +13,9 @@ use Rattle.task_syntax.specs.Names.{Words, count_of, word_count, words_from, wor
 use Rattle.trace_out.specs.Front.{◌>>=◌, behind, behind_name, name_at, number_at}
 use Rattle.trace_out.specs.Lookups.{index_at, word_among, word_at}
 use Rattle.trace_out.specs.Names.{index_text, word_text}
-use Rattle.trace_out.proofs.Binds.{Bound, bound, Made, made}
+use Rattle.trace_out.proofs.Binds.{bound, made}
 use Rattle.trace_out.proofs.Fronts.{IsNameText, behind-again, behind-parts, behind_name-again, name_at-again, name_at-split, number_at-again, number_at-parts}
-use Rattle.trace_out.proofs.Places.{AreDistinct, AreNames}
+use Rattle.trace_out.proofs.Places.{AreNames}
 
 abbrev pub name_of_var : Var → List ℕ
 name_of_var var = var.name.text

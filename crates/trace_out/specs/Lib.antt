@@ -1,9 +1,15 @@
-pub mod Words
+pub mod Lines
 pub mod Names
+pub mod Labels
 pub mod Shown
 pub mod Printed
+pub mod Marks
+pub mod BoardText
+pub mod ShownRun
+pub mod ShownRuns
 pub mod Front
 pub mod Lookups
 pub mod LineReading
 pub mod Reading
 pub mod Answer
+pub mod Printing

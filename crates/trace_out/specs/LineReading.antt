@@ -1,12 +1,11 @@
 -- What a line of a printed text is read as.
-use Rattle.std.specs.Prelude.{ℕ, zero, suc, ◌-◌, List, [], ◌∷◌, codes, Option, Some, None, length, nat_le, if◌then◌else◌}
+use Rattle.std.specs.Prelude.{ℕ, zero, suc, List, [], ◌∷◌, codes, Option, Some, None, length, nat_le, if◌then◌else◌}
 use Rattle.std.specs.Option.{option_map, option_map_or}
 use Rattle.std.specs.Str.{bytes_eq}
 use Rattle.coati_word.specs.declared.limits.TheConstants.{EXECUTOR_STEPS}
 use Rattle.coati_word.specs.declared.mode.Mode.{Mode}
 use Rattle.coati_word.specs.declared.mode.Mode.TheVariants.{Split, Buffi}
 use Rattle.coati_word.specs.declared.reading.Reading.{Reading}
-use Rattle.serial_log.specs.declared.abort.AbortOf.{AbortOf}
 use Rattle.serial_log.specs.declared.end.End.{End}
 use Rattle.serial_log.specs.declared.end.End.TheVariants as end
 use Rattle.serial_log.specs.declared.line.Line.{Line}

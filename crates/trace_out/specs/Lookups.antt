@@ -6,7 +6,7 @@ use Rattle.task_check.specs.Counts.{transactions}
 use Rattle.task_check.specs.Numbers.{event_of}
 use Rattle.task_syntax.specs.declared.program.Program.{Program}
 use Rattle.task_syntax.specs.declared.program.TxDecl.{TxDecl}
-use Rattle.task_syntax.specs.Names.{Words, task_of, words_of}
+use Rattle.task_syntax.specs.Names.{task_of, words_of}
 use Rattle.trace_out.specs.Front.{◌>>=◌, behind, behind_name, name_at, number_at}
 
 -- the number of the transaction of a name, where the first of these has the number `first`

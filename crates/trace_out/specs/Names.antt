@@ -1,5 +1,5 @@
 -- How tasks, transactions, events and variable words are named.
-use Rattle.std.specs.Prelude.{ℕ, ◌-◌, List, [], ◌∷◌, ◌++◌, Option, Some, None, if◌then◌else◌}
+use Rattle.std.specs.Prelude.{ℕ, zero, suc, ◌-◌, List, [], ◌∷◌, ◌++◌, Option, Some, None, if◌then◌else◌}
 use Rattle.std.specs.Prelude.{codes, decimal, nat_le, slice_get}
 use Rattle.std.specs.Option.{option_map_or}
 use Rattle.task_check.specs.Counts.{transactions}
@@ -40,3 +40,13 @@ word_text (var ∷ more) word =
     if nat_le (count_of var.length) word
     then word_text more (word - count_of var.length)
     else var.name.text ++ index_text var.length word
+
+-- so many words of a variable, the first of which has this index
+abbrev pub texts_from : (index count : ℕ) → Var → List (List ℕ)
+texts_from index zero var = []
+texts_from index (suc count) var =
+    (var.name.text ++ index_text var.length index) ∷ texts_from (suc index) count var
+
+-- all words of a variable
+abbrev pub texts_of_words : Var → List (List ℕ)
+texts_of_words var = texts_from 0 (count_of var.length) var

@@ -22,7 +22,7 @@ use Rattle.task_syntax.specs.declared.program.Program.{Program}
 use Rattle.task_syntax.specs.declared.program.Var.{Var}
 use Rattle.task_syntax.specs.Names.{count_of, tasks, word_count}
 use Rattle.trace_out.specs.Shown.{end_line, line_text}
-use Rattle.trace_out.specs.Words.{word_and_number}
+use Rattle.trace_out.specs.Lines.{with_end, word_and_number}
 
 abbrev pub mode_line : Mode → List ℕ
 mode_line Split = codes "coati split"
@@ -68,7 +68,7 @@ printed_lines program printed =
 
 -- lines, each with its end
 abbrev pub text_of : List (List ℕ) → List ℕ
-text_of lines = flat_map (λ line. line ++ line_feed ∷ []) lines
+text_of lines = flat_map with_end lines
 
 -- the printed text
 abbrev pub printed_text : Program → Printed → List ℕ

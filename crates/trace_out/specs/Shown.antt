@@ -15,7 +15,7 @@ use Rattle.serial_log.specs.declared.unit.Unit.{Unit as Committed}
 use Rattle.serial_log.specs.declared.unit.Unit.TheVariants as unit
 use Rattle.serial_log.specs.History.{readings_in}
 use Rattle.trace_out.specs.Names.{event_name, task_name, transaction_name, word_text}
-use Rattle.trace_out.specs.Words.{word_and_number}
+use Rattle.trace_out.specs.Lines.{word_and_number}
 
 -- a blank, the variable word and what was read there
 abbrev pub reading_text : Program → Reading → List ℕ

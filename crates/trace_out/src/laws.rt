@@ -6,6 +6,10 @@ ghost use Rattle.task_check.specs.WellFormed.{IsWellFormed};
 ghost use Rattle.task_syntax.specs.declared.program.Program.{Program};
 ghost use Rattle.trace_out.specs.Answer.{IsAnswered};
 ghost use Rattle.trace_out.specs.Printed.{IsBadLine, PrintedText};
+ghost use Rattle.trace_out.specs.ShownRun.{RunsSayWhatTheyShow};
+ghost use Rattle.trace_out.specs.ShownRuns.{LegalRunsShowSerialTexts};
+
+use serial_log::laws::legal_histories_keep_each_fact;
 
 /// For an accepted program each text says one thing or has one first bad line, and not both.
 pub fn each_text_says_one_thing()
@@ -20,3 +24,15 @@ pub fn each_text_says_one_thing()
         → IsAccepted program → IsWellFormed program
         → PrintedText program text printed → IsBadLine program text number → ⊥ }
 {}
+
+/// The text of a run whose numbers are in range is a printed text, and says what the run shows.
+pub fn runs_say_what_they_show()
+    ensures { RunsSayWhatTheyShow }
+{}
+
+/// What a legal run shows is serial and legal.
+pub fn legal_runs_show_serial_texts()
+    ensures { LegalRunsShowSerialTexts }
+{
+    legal_histories_keep_each_fact();
+}

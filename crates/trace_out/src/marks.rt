@@ -1,171 +1,178 @@
-//! The lines that show marks.
+//! The lines that show the marks of a history.
 
-ghost use Rattle.std.specs.Prelude.{◌≡◌, ◌+◌, ◌<◌, ◌≤◌, ◌^◌, IfOk, IfSome, length};
-ghost use Rattle.std.specs.Option.{option_map};
-ghost use Rattle.trace_out.specs.LineReading.{abort_in, answer_in, boot_in, commit_in, mark_in, plain_in, post_in, raised_at};
+ghost use Rattle.std.specs.Prelude.{◌≡◌, flat_map};
+ghost use Rattle.std.specs.List.{Any};
+ghost use Rattle.coati_io.specs.Sending.{Puts};
+ghost use Rattle.trace_out.specs.Lines.{with_end};
+ghost use Rattle.trace_out.specs.Marks.{mark_lines, mark_text};
+ghost use Rattle.trace_out.specs.Shown.{abort_line, answer_text, boot_line, commit_line, count_text};
+ghost use Rattle.trace_out.specs.Shown.{end_line, post_line, raised_text, reading_text, unit_text};
 
-use crate::front::{alone, behind, last_number, number_at};
-use crate::lookups::{event_at, word_at};
-use crate::raised::Raised;
-use crate::readings::readings_in;
-use crate::shown::Shown;
-use crate::units::{posting_at, record_at, tasks_at, unit_at};
-use coati_word::OutOfMemory;
-use coati_word::limits::DEVICES;
-use serial_log::{AbortOf, Answer, Line, Posted, Record, Unit};
-use sqlite_items::Items;
-use std::alloc::Global;
-use task_check::Checked;
+use crate::names::Names;
+use crate::numbers::put_number;
+use coati_io::{Pieces, Sink};
+use coati_word::Reading;
+use serial_log::{AbortOf, Answer, End, History, MarkKind, Posted, Record, Unit};
 
-/// What a line says that shows a mark, where `from` readings stand before it; none where it has no
-/// such form.
-#[tactic(auto, unfolding(crate::specs::LineReading::mark_in))]
-pub(crate) fn mark_in(
-    alloc: Global,
-    checked: &Checked,
-    from: u32,
-    line: &[u8],
-) -> Result<Option<Shown>, OutOfMemory>
-    requires { from + length line.now < 2 ^ 32 }
-    ensures mark { IfOk result (λ found. found ≡ mark_in checked.now from line.now) }
-    ensures few { IfOk result (λ found. IfSome found (λ shown. length shown.readings
-        ≤ length line.now)) }
+/// Puts a line for each mark of the history that is told.
+pub(crate) fn put_marks<K: Sink>(out: &mut Pieces<K>, names: &Names, history: &History)
+    ensures { Puts K.taken K.faults K.spare out.old out.new
+        (mark_lines names.now.checked.now history.now.readings history.now.marks) }
 {
-    if let Some(text) = behind(line, b"commit ") {
-        return commit_in(alloc, checked, from, text);
-    }
-    match plain_in(checked, line) {
-        Some(line) => Ok(Some(Shown {
-            line,
-            readings: Items::new(alloc),
-        })),
-        None => Ok(None),
+    for mark in history.marks() {
+        put_mark(out, names, history, mark.at, &mark.kind);
     }
 }
 
-/// A commit with its readings.
-#[tactic(auto, unfolding(crate::specs::LineReading::commit_in))]
-fn commit_in(
-    alloc: Global,
-    checked: &Checked,
-    from: u32,
-    text: &[u8],
-) -> Result<Option<Shown>, OutOfMemory>
-    requires { from + length text.now < 2 ^ 32 }
-    ensures commit { IfOk result (λ found. found ≡ commit_in checked.now from text.now) }
-    ensures few { IfOk result (λ found. IfSome found (λ shown. length shown.readings
-        ≤ length text.now)) }
+/// Puts the line of a mark.
+fn put_mark<K: Sink>(
+    out: &mut Pieces<K>,
+    names: &Names,
+    history: &History,
+    at: u32,
+    kind: &MarkKind,
+)
+    requires { Any (λ mark. mark.kind ≡ kind.now) history.now.marks }
+    ensures { Puts K.taken K.faults K.spare out.old out.new
+        (mark_text names.now.checked.now history.now.readings at kind.now) }
 {
-    let Some((committed, text)) = record_at(checked, from, text) else {
-        return Ok(None);
-    };
-    match readings_in(alloc, checked, text)? {
-        Some(readings) => {
-            let reads_len = readings.len() as u32;
-            Ok(Some(Shown {
-                line: Line::Commit(Record {
-                    reads_len,
-                    ..committed
-                }),
-                readings,
-            }))
+    match kind {
+        MarkKind::Boot(number) => put_boot(out, at, *number),
+        MarkKind::Posted(posted) => put_post(out, names, at, posted),
+        MarkKind::Done(_) => {}
+        MarkKind::Commit(committed) => {
+            put_commit(out, names, committed, history.readings(committed))
         }
-        None => Ok(None),
+        MarkKind::Abort(aborted) => put_abort(out, names, aborted),
+        MarkKind::End(end) => put_end(out, *end),
     }
 }
 
-/// A boot, a posting or an abort.
-#[tactic(auto, unfolding(crate::specs::LineReading::plain_in))]
-fn plain_in(checked: &Checked, line: &[u8]) -> Option<Line>
-    ensures { result ≡ plain_in checked.now line.now }
+fn put_boot<K: Sink>(out: &mut Pieces<K>, at: u32, number: u32)
+    ensures { Puts K.taken K.faults K.spare out.old out.new (with_end (boot_line at number)) }
 {
-    if let Some(text) = behind(line, b"boot ") {
-        return boot_in(text);
-    }
-    if let Some(text) = behind(line, b"post ") {
-        return post_in(checked, text);
-    }
-    abort_in(checked, behind(line, b"abort ")?)
+    put_number(out, b"boot", number);
+    put_number(out, b" at", at);
+    out.put(b"\n");
 }
 
-#[tactic(auto, unfolding(crate::specs::LineReading::boot_in))]
-fn boot_in(text: &[u8]) -> Option<Line>
-    ensures { result ≡ boot_in text.now }
+fn put_post<K: Sink>(out: &mut Pieces<K>, names: &Names, at: u32, posted: &Posted)
+    ensures { Puts K.taken K.faults K.spare out.old out.new
+        (with_end (post_line names.now.checked.now at posted.now)) }
 {
-    let (number, text) = number_at(u32::MAX, text)?;
-    let at = last_number(u32::MAX, behind(text, b" at ")?)?;
-    Some(Line::Boot { number, at })
+    put_raised(out, names, posted);
+    put_number(out, b" from", posted.from);
+    put_number(out, b" at", at);
+    put_answer(out, posted.answer);
+    out.put(b"\n");
 }
 
-#[tactic(auto, unfolding(crate::specs::LineReading::post_in))]
-fn post_in(checked: &Checked, text: &[u8]) -> Option<Line>
-    ensures { result ≡ post_in checked.now text.now }
+/// Puts which device raised a posting, which of its postings it is, and what it posts.
+fn put_raised<K: Sink>(out: &mut Pieces<K>, names: &Names, posted: &Posted)
+    ensures { Puts K.taken K.faults K.spare out.old out.new
+        (raised_text names.now.checked.now posted.now) }
 {
-    let (raised, text) = raised_at(checked, text)?;
-    let (from, text) = number_at(u32::MAX, behind(text, b" from ")?)?;
-    let (at, text) = number_at(u32::MAX, behind(text, b" at ")?)?;
-    let answer = answer_in(text)?;
-    Some(Line::Post {
-        at,
-        posted: Posted {
-            device: raised.device,
-            index: raised.index,
-            event: raised.event,
-            argument: raised.argument,
-            from,
-            answer,
-        },
-    })
+    put_number(out, b"post", u32::from(posted.device));
+    out.put(b".");
+    out.put_decimal(posted.index);
+    out.put(b" ");
+    names.put_event(out, posted.event);
+    put_number(out, b"", u32::from(posted.argument));
 }
 
-/// What a device raised.
-#[tactic(auto, unfolding(crate::specs::LineReading::raised_at))]
-fn raised_at<'a>(checked: &Checked, text: &'a [u8]) -> Option<(Raised, &'a [u8])>
-    ensures { option_map (λ found. (found.0, found.1.now)) result
-        ≡ raised_at checked.now text.now }
+fn put_answer<K: Sink>(out: &mut Pieces<K>, answer: Answer)
+    ensures { Puts K.taken K.faults K.spare out.old out.new (answer_text answer) }
 {
-    let (device, text) = number_at(u32::from(DEVICES) - 1, text)?;
-    let (index, text) = number_at(u32::MAX, behind(text, b".")?)?;
-    let (event, text) = event_at(checked, behind(text, b" ")?)?;
-    let (argument, text) = number_at(u32::from(u16::MAX), behind(text, b" ")?)?;
-    let raised = Raised {
-        device: device as u8,
-        index,
-        event,
-        argument: argument as u16,
-    };
-    Some((raised, text))
-}
-
-#[tactic(auto, unfolding(crate::specs::LineReading::answer_in))]
-fn answer_in(text: &[u8]) -> Option<Answer>
-    ensures { result ≡ answer_in text.now }
-{
-    if text == b" full".as_slice() {
-        return Some(Answer::Full);
+    match answer {
+        Answer::Accepted(number) => put_number(out, b" accepted", number),
+        Answer::Full => out.put(b" full"),
+        Answer::Lost(boot) => put_number(out, b" lost", boot),
     }
-    if let Some(number) = behind(text, b" accepted ") {
-        return last_number(u32::MAX, number).map(Answer::Accepted);
-    }
-    last_number(u32::MAX, behind(text, b" lost ")?).map(Answer::Lost)
 }
 
-#[tactic(auto, unfolding(crate::specs::LineReading::abort_in))]
-fn abort_in(checked: &Checked, text: &[u8]) -> Option<Line>
-    ensures { result ≡ abort_in checked.now text.now }
+fn put_commit<K: Sink>(out: &mut Pieces<K>, names: &Names, committed: &Record, readings: &[Reading])
+    ensures { Puts K.taken K.faults K.spare out.old out.new
+        (with_end (commit_line names.now.checked.now committed.now readings.now)) }
 {
-    let (unit, text) = unit_at(checked, text)?;
-    if let Unit::Event(_) = unit {
-        return None;
+    out.put(b"commit ");
+    put_unit(out, names, committed.unit);
+    put_count(out, committed);
+    out.put(b" reads");
+    put_readings(out, names, readings);
+    out.put(b"\n");
+}
+
+/// Puts the kind and the name of a unit.
+fn put_unit<K: Sink>(out: &mut Pieces<K>, names: &Names, unit: Unit)
+    ensures { Puts K.taken K.faults K.spare out.old out.new (unit_text names.now.checked.now unit) }
+{
+    match unit {
+        Unit::Task(task) => {
+            out.put(b"task ");
+            names.put_task(out, task)
+        }
+        Unit::Transaction(tx) => {
+            out.put(b"transaction ");
+            names.put_transaction(out, tx)
+        }
+        Unit::Event(event) => {
+            out.put(b"event ");
+            names.put_event(out, event)
+        }
     }
-    let (tasks, text) = tasks_at(text)?;
-    let (posting, text) = posting_at(text)?;
-    let (word, text) = word_at(checked, behind(text, b" word ")?)?;
-    let aborted = AbortOf {
-        unit,
-        tasks,
-        posting,
-        word,
-    };
-    alone(Line::Abort(aborted), text)
+}
+
+/// Puts how many tasks a committed transaction had, or which posting an event served.
+fn put_count<K: Sink>(out: &mut Pieces<K>, committed: &Record)
+    ensures { Puts K.taken K.faults K.spare out.old out.new
+        (count_text committed.now committed.now.unit) }
+{
+    match committed.unit {
+        Unit::Task(_) => {}
+        Unit::Transaction(_) => put_number(out, b" tasks", committed.tasks),
+        Unit::Event(_) => put_number(out, b" posting", committed.posting),
+    }
+}
+
+/// Puts all that a unit read.
+fn put_readings<K: Sink>(out: &mut Pieces<K>, names: &Names, readings: &[Reading])
+    ensures { Puts K.taken K.faults K.spare out.old out.new
+        (flat_map (reading_text names.now.checked.now) readings.now) }
+{
+    for reading in readings {
+        put_reading(out, names, reading);
+    }
+}
+
+/// Puts what was read at a variable word.
+fn put_reading<K: Sink>(out: &mut Pieces<K>, names: &Names, reading: &Reading)
+    ensures { Puts K.taken K.faults K.spare out.old out.new
+        (reading_text names.now.checked.now reading.now) }
+{
+    out.put(b" ");
+    names.put_word(out, reading.word);
+    out.put(b"=");
+    out.put_decimal(u32::from(reading.value));
+}
+
+fn put_abort<K: Sink>(out: &mut Pieces<K>, names: &Names, aborted: &AbortOf)
+    ensures { Puts K.taken K.faults K.spare out.old out.new
+        (with_end (abort_line names.now.checked.now aborted.now)) }
+{
+    out.put(b"abort ");
+    put_unit(out, names, aborted.unit);
+    put_number(out, b" tasks", aborted.tasks);
+    put_number(out, b" posting", aborted.posting);
+    out.put(b" word ");
+    names.put_word(out, aborted.word);
+    out.put(b"\n");
+}
+
+fn put_end<K: Sink>(out: &mut Pieces<K>, end: End)
+    ensures { Puts K.taken K.faults K.spare out.old out.new (with_end (end_line end)) }
+{
+    match end {
+        End::Idle => out.put(b"end idle\n"),
+        End::Limit => out.put(b"end limit\n"),
+    }
 }

@@ -2,7 +2,7 @@ ghost use Rattle.std.specs.Prelude.{◌≡◌, ◌+◌, ◌<◌, ◌≤◌, ◌^
 ghost use Rattle.trace_out.specs.Reading.{behind_line, behind_mark, behind_values, headed, readings_of};
 
 use crate::frame::{bound_in, end_in, held_in, mode_in};
-use crate::marks::mark_in;
+use crate::mark_reader::mark_in;
 use crate::readings::values_in;
 use coati_word::{Mode, OutOfMemory};
 use serial_log::{End, Printed};

@@ -1,8 +1,8 @@
-use Rattle.std.proofs.Common.{◌≡◌, ◌∙◌, ℕ, List, Result, Ok, Err, IfOk, IfErr, subst, sym, ap}
+use Rattle.std.proofs.Common.{ℕ, List, Result, Ok, Err, IfOk, IfErr, subst}
 use Rattle.serial_log.specs.declared.printed.Printed.{Printed}
 use Rattle.task_syntax.specs.declared.program.Program.{Program}
 use Rattle.trace_out.specs.Answer.{Explains, IsAnswer}
-use Rattle.trace_out.specs.Printed.{IsBadLine, PrintedText}
+use Rattle.trace_out.specs.Printed.{PrintedText}
 use Rattle.trace_out.specs.Reading.{reading}
 use Rattle.trace_out.specs.declared.fault.PrintFault.{PrintFault}
 use Rattle.trace_out.specs.declared.fault.PrintFault.TheVariants.{BadLine, OutOfMemory}

@@ -1,10 +1,10 @@
-use Rattle.std.proofs.Common.{◌≡◌, ◌∙◌, ◌+◌, ◌++◌, ◌≤◌, length, ap, sym, arith, Some}
+use Rattle.std.proofs.Common.{◌≡◌, ◌++◌, ◌≤◌, length, ap, sym, arith, Some}
 use Rattle.std.specs.Prelude.{codes}
 use Rattle.std.proofs.lemmas.List.{length-append}
 use Rattle.trace_out.specs.LineReading.{record_at}
 use Rattle.trace_out.specs.Shown.{count_text, unit_text}
 use Rattle.trace_out.proofs.UnitReads.{record_at-parts}
-use Rattle.trace_out.proofs.marks.commit_in.Goals as goal
+use Rattle.trace_out.proofs.mark_reader.commit_in.Goals as goal
 
 pub overflow_cast-reads_len : goal.overflow_cast-reads_len
 overflow_cast-reads_len c =

@@ -1,0 +1,11 @@
+pub mod Alls
+pub mod Effects
+pub mod HandlerTimes
+pub mod MarkRanges
+pub mod Marks
+pub mod RunRanges
+pub mod Runs
+pub mod TaskSteps
+pub mod Touched
+pub mod Transactions
+pub mod Waiting

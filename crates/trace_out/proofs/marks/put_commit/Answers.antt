@@ -1,0 +1,6 @@
+use Rattle.coati_io.proofs.Sending.{puts_then}
+use Rattle.trace_out.proofs.marks.put_commit.Goals as goal
+
+pub returns : goal.returns
+returns g c =
+    puts_then (puts_then (puts_then (puts_then (puts_then c.put.ensures c.put_unit.ensures) c.put_count.ensures) c.put-2.ensures) c.put_readings.ensures) c.put-3.ensures

@@ -1,6 +1,6 @@
 -- A generated input: a sensor whose samples go into a ring, of which a transaction forms the mean;
 -- with as many power periods and postings as are asked for.
-use Rattle.std.specs.Prelude.{ℕ, zero, suc, ◌+◌, ◌*◌, ◌%◌, List, [], ◌∷◌, ◌++◌, codes, decimal}
+use Rattle.std.specs.Prelude.{ℕ, zero, suc, ◌+◌, ◌*◌, ◌%◌, List, [], ◌++◌, codes, decimal}
 
 -- the declarations before the count of rounds that are left
 abbrev pub declared_text : List ℕ

@@ -27,7 +27,8 @@ module _ (program : Program) (mode : Mode) (all : List Reading) where
   abbrev pub MeetsCondition : Standing → TextLine → Type 0
   MeetsCondition s (TextLine.mode_is told) = told ≡ mode
   MeetsCondition s (TextLine.bound_is told) = told ≡ period_bound program
-  MeetsCondition s (TextLine.shows line) = IsLegalMark (terms_of program mode) all s (mark_of line s)
+  MeetsCondition s (TextLine.shows line) = IsLegalMark (terms_of program mode) all s
+      (mark_of line s)
   MeetsCondition s (TextLine.ends end) = IsLegalMark (terms_of program mode) all s
       (mark_at s.latest (End end))
   MeetsCondition s (TextLine.holds first values) = AreWordsFrom s.run.store first values

@@ -1,5 +1,5 @@
--- The definitions in the order in which to read them: a printed text line by line, what is asked of
--- each line, and the verdict.
+-- The definitions in the order in which to read them: a printed text line by line, what is asked
+-- of each line, and the verdict.
 pub mod Text
 pub mod Conditions
 pub mod Verdicts

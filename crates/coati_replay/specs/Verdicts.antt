@@ -1,4 +1,5 @@
--- What is found of a printed text: each line meets its condition, or one is the first that doesn't.
+-- What is found of a printed text: each line meets its condition, or one is the first that
+-- doesn't.
 use Rattle.std.specs.Prelude.{ℕ, ◌+◌, ◌≡◌, List, ◌∷◌, ◌++◌, length}
 use Rattle.coati_word.specs.declared.mode.Mode.{Mode}
 use Rattle.task_syntax.specs.declared.program.Program.{Program}

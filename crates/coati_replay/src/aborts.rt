@@ -39,7 +39,8 @@ impl<'a> Judge<'a> {
             ↔ IsAbortLegal (terms_of self.now.checked.now self.now.mode) (shown_by progress.now)
             aborted.now) }
     {
-        if self.mode != Mode::Buffi || !is_unit_at(self.checked, progress.run.place, aborted.unit) {
+        let place = progress.run.place;
+        if self.mode != Mode::Buffi || !is_unit_at(self.checked, place, aborted.unit) {
             return Ok(false);
         }
         let Some(held) = progress.rest.first() else {

@@ -1,4 +1,5 @@
-ghost use Rattle.std.specs.Prelude.{◌≡◌, ◌+◌, ◌<◌, ◌≤◌, ◌↔◌, IfOk, IfSome, IsTrue, length, slice_index};
+ghost use Rattle.std.specs.Prelude.{◌≡◌, ◌+◌, ◌<◌, ◌≤◌, ◌↔◌, IfOk, IfSome, IsTrue};
+ghost use Rattle.std.specs.Prelude.{length, slice_index};
 ghost use Rattle.task_check.specs.Counts.{transactions};
 ghost use Rattle.task_syntax.specs.Names.{tasks};
 ghost use Rattle.task_syntax.specs.Units.{place_after, task_effect};

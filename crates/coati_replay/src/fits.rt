@@ -7,7 +7,8 @@ use task_check::Checked;
 /// Texts have fewer lines.
 const LINES: usize = 0x8000_0000;
 
-/// Whether a printed text names parts of this program alone, and has a value for each of its words.
+/// Whether a printed text names parts of this program alone, and has a value for each of its
+/// words.
 pub fn is_text_of(checked: &Checked, printed: &Printed) -> bool
     ensures { IsTrue result ↔ IsTextOf checked.now printed.now }
 {

@@ -9,7 +9,7 @@ ghost use Rattle.coati_replay.specs.Shown.{GoesOnTo, IsProgressOf, shown_by};
 
 use crate::judge::Judge;
 use crate::progress::Progress;
-use coati_word::{Mode, OutOfMemory};
+use coati_word::OutOfMemory;
 use serial_log::{Answer, Held, Posted};
 use task_check::Checked;
 
@@ -52,7 +52,7 @@ impl<'a> Judge<'a> {
             return Ok(None);
         }
         let mut progress = progress;
-        take_post(self.checked, self.mode, &mut progress, at, posted)?;
+        self.take(&mut progress, at, posted)?;
         Ok(Some(progress))
     }
 
@@ -97,41 +97,36 @@ impl<'a> Judge<'a> {
             && from < at
             && u64::from(at) <= u64::from(from) + u64::from(self.handler)
     }
-}
 
-/// Goes on by a posting that is legal.
-fn take_post(
-    checked: &Checked,
-    mode: Mode,
-    progress: &mut Progress,
-    at: u32,
-    posted: &Posted,
-) -> Result<(), OutOfMemory>
-    requires progress { IsProgressOf checked.now progress.old }
-    requires event { posted.now.event < length checked.now.events }
-    requires legal { IsLegalPost (terms_of checked.now mode) (shown_by progress.old) at posted.now }
-    ensures leads { OnOk result (shown_by progress.new ≡ after_mark checked.now
-        (shown_by progress.old) (mark_at at (kind.Posted posted.now))) }
-    ensures fits { OnOk result (IsProgressOf checked.now progress.new) }
-{
-    progress.raised[usize::from(posted.device)] = posted.index;
-    progress.latest = at;
-    match posted.answer {
-        Answer::Accepted(number) => {
-            let Posted {
-                event,
-                argument,
-                ..
-            } = *posted;
-            progress.rest.push(Held {
-                number,
-                event,
-                argument,
-            })?;
-            progress.accepted = number;
+    /// Goes on by a posting that is legal.
+    fn take(&self, progress: &mut Progress, at: u32, posted: &Posted) -> Result<(), OutOfMemory>
+        requires progress { IsProgressOf self.now.checked.now progress.old }
+        requires event { posted.now.event < length self.now.checked.now.events }
+        requires legal { IsLegalPost (terms_of self.now.checked.now self.now.mode)
+            (shown_by progress.old) at posted.now }
+        ensures leads { OnOk result (shown_by progress.new ≡ after_mark self.now.checked.now
+            (shown_by progress.old) (mark_at at (kind.Posted posted.now))) }
+        ensures fits { OnOk result (IsProgressOf self.now.checked.now progress.new) }
+    {
+        progress.raised[usize::from(posted.device)] = posted.index;
+        progress.latest = at;
+        match posted.answer {
+            Answer::Accepted(number) => {
+                let Posted {
+                    event,
+                    argument,
+                    ..
+                } = *posted;
+                progress.rest.push(Held {
+                    number,
+                    event,
+                    argument,
+                })?;
+                progress.accepted = number;
+            }
+            Answer::Full => {}
+            Answer::Lost(boot) => progress.lost = Some(boot),
         }
-        Answer::Full => {}
-        Answer::Lost(boot) => progress.lost = Some(boot),
+        Ok(())
     }
-    Ok(())
 }

@@ -17,8 +17,8 @@ use std::alloc::Global;
 use task_check::Checked;
 use task_cost::bounds;
 
-/// Judges a printed text of a program under a mode: whether each line meets its condition, or which
-/// is the first that doesn't. No unit runs further than its line tells.
+/// Judges a printed text of a program under a mode: whether each line meets its condition, or
+/// which is the first that doesn't. No unit runs further than its line tells.
 pub fn replay(
     alloc: Global,
     checked: &Checked,
@@ -74,8 +74,9 @@ impl<'a> Judge<'a> {
         requires text { IsTextOf self.now.checked.now printed.now }
         requires readings { self.now.readings.now ≡ printed.now.readings }
         requires progress { IsProgressOf self.now.checked.now progress }
-        requires come { HasCome self.now.checked.now self.now.mode printed.now (shown_by progress) 3
-            (map TextLine.shows printed.now.lines ++ last_lines self.now.checked.now printed.now) }
+        requires come { HasCome self.now.checked.now self.now.mode printed.now
+            (shown_by progress) 3 (map TextLine.shows printed.now.lines
+            ++ last_lines self.now.checked.now printed.now) }
         ensures { IfOk result (IsStage self.now.checked.now self.now.mode printed.now
             (length printed.now.lines + 3) (last_lines self.now.checked.now printed.now)) }
     {

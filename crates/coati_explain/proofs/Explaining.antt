@@ -1,7 +1,8 @@
 -- Why a call ended as it did, from the answer that was delivered.
 use Rattle.std.proofs.Common.{◌≡◌, ℕ, ◌+◌, List, sym, ap, ◌∙◌, subst, inl, inr}
 use Rattle.coati_io.specs.Ends.{ReadsWhole, ConsumesExactly}
-use Rattle.coati_top.specs.Call.{Delivers, InputEdge, OutputEdge, WritesOrFails, WritesAll, WritesFront, after_fault, input_limit}
+use Rattle.coati_io.specs.Writing.{OutputEdge, WritesAll, WritesFront, WritesOrFails}
+use Rattle.coati_top.specs.Call.{Delivers, InputEdge, after_fault, input_limit}
 use Rattle.coati_top.specs.declared.status.Status.{Status}
 use Rattle.coati_top.specs.declared.status.Status.TheVariants.{Ok, WriteFault, TooLarge, BadTrace, Refused, OutOfMemory}
 use Rattle.coati_explain.specs.Answer.{IsExplanation}

@@ -1,7 +1,7 @@
 -- What is told of an accepted source, and of the trace behind it.
 use Rattle.std.specs.Prelude.{ℕ, List, ◌++◌, codes, length}
 use Rattle.serial_log.specs.declared.script.Script.{Script}
-use Rattle.coati_top.specs.Lines.{word_and_number}
+use Rattle.trace_out.specs.Lines.{word_and_number}
 use Rattle.task_cost.specs.Limits.{bounds_of}
 use Rattle.task_syntax.specs.declared.program.Program.{Program}
 

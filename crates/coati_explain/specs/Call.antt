@@ -1,7 +1,8 @@
 -- What a call did at its two ends, and why it ended with its status.
 use Rattle.std.specs.Prelude.{◌≡◌, ℕ, ◌+◌, List, ◌++◌, codes}
 use Rattle.coati_io.specs.Ends.{ConsumesExactly, ReadsWhole}
-use Rattle.coati_top.specs.Call.{Delivers, InputEdge, OutputEdge, ReadingFailed, WritesOrFails, WritesAll, WritesFront, WritesNothing, input_limit}
+use Rattle.coati_io.specs.Writing.{OutputEdge, WritesAll, WritesFront, WritesNothing, WritesOrFails}
+use Rattle.coati_top.specs.Call.{Delivers, InputEdge, ReadingFailed, input_limit}
 use Rattle.coati_top.specs.declared.status.Status.{Status}
 use Rattle.coati_top.specs.declared.status.Status.TheVariants.{Ok, Usage, ReadFault, WriteFault, TooLarge, Refused, BadTrace, Differs, OutOfMemory}
 use Rattle.coati_explain.specs.Answer.{IsExplanation}

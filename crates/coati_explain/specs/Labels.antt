@@ -3,7 +3,7 @@ use Rattle.std.specs.Prelude.{ℕ, List, [], ◌++◌, codes}
 use Rattle.task_check.specs.Accepted.{number_of}
 use Rattle.trace_text.specs.declared.fault.TraceFault.{TraceFault}
 use Rattle.trace_text.specs.declared.fault.TraceFault.TheVariants.{BadLine, Unknown, Order, TooMany, NoLimit, OutOfMemory}
-use Rattle.coati_top.specs.Lines.{word_and_number}
+use Rattle.trace_out.specs.Lines.{word_and_number}
 use Rattle.coati_top.specs.Refusal.{rule_text}
 use Rattle.coati_top.specs.declared.source_fault.SourceFault.{SourceFault}
 use Rattle.coati_top.specs.declared.source_fault.SourceFault.TheVariants as fault

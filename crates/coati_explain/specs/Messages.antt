@@ -8,7 +8,7 @@ use Rattle.task_check.specs.declared.rule.Rule.TheVariants as rule
 use Rattle.task_lex.specs.Byte.{is_name_byte}
 use Rattle.task_lex.specs.Reading.{Tokens}
 use Rattle.task_lex.specs.declared.token.Token.{Token}
-use Rattle.coati_top.specs.Lines.{word_and_number}
+use Rattle.trace_out.specs.Lines.{word_and_number}
 use Rattle.coati_top.specs.declared.source_fault.SourceFault.{SourceFault}
 use Rattle.coati_top.specs.declared.source_fault.SourceFault.TheVariants as fault
 use Rattle.coati_explain.specs.declared.message.Message.{Message}

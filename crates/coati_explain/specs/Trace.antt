@@ -1,7 +1,7 @@
 -- What is told of each fault of a trace. A line is told by its number in the input.
 use Rattle.std.specs.Prelude.{ℕ, ◌+◌, ◌==◌, List, [], ◌∷◌, ◌++◌, codes, length, if◌then◌else◌}
 use Rattle.coati_text.specs.Line.{lines_of}
-use Rattle.coati_top.specs.Lines.{word_and_number}
+use Rattle.trace_out.specs.Lines.{word_and_number}
 use Rattle.coati_top.specs.Divided.{second_part, source_part}
 use Rattle.trace_text.specs.Fields.{is_quiet}
 use Rattle.trace_text.specs.declared.fault.TraceFault.{TraceFault}

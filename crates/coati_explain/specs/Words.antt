@@ -1,6 +1,6 @@
 -- The words of each message, of the word that stands at the place, and of the word before it.
 use Rattle.std.specs.Prelude.{ℕ, List, ◌++◌, codes}
-use Rattle.coati_top.specs.Lines.{word_and_number}
+use Rattle.trace_out.specs.Lines.{word_and_number}
 use Rattle.coati_explain.specs.Shown.{around, quoted}
 use Rattle.coati_explain.specs.declared.message.Message.{Message}
 use Rattle.coati_explain.specs.declared.message.Message.TheVariants.{StrangeByte, UnprintableByte, ByteOrderMark, GreatNumber, NumberIntoLetter, NoTokens, NoBeginning, NoGoingOn, EndsEarly, ManyBrackets, ManyOperators, TwiceNamed, Unknown, WrongKind, BadCount, BadBuffer, TooManyWords, TooManyTasks, NoEnding, EarlyEnding, EarlyNext, IntoTx, TopReadsNv, GiveCount, FifthParameter, LoopAssigned, TooManyLocals, TooDeepStack, TooLong, BadLine, UnknownEvent, OutOfOrder, AboveLimit, OtherFirst, NothingSaid}

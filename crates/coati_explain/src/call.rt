@@ -1,6 +1,7 @@
 //! The call of the program.
 ghost use Rattle.std.specs.Prelude.{◌≡◌, ◌≤◌, length};
-ghost use Rattle.coati_top.specs.Call.{input_edge, output_edge};
+ghost use Rattle.coati_io.specs.Writing.{output_edge};
+ghost use Rattle.coati_top.specs.Call.{input_edge};
 ghost use Rattle.coati_explain.specs.Call.{DeliversExplanation, ExplainEnded};
 
 use crate::answer::{Reply, answer_to};

@@ -12,32 +12,44 @@ use Rattle.task_parse.specs.Faults.{DeepAt, FaultAt, Spells}
 use Rattle.task_parse.specs.Grammar.{Derives}
 use Rattle.task_parse.specs.Lexeme.{Lexeme}
 use Rattle.coati_board.specs.Board.{Whole}
+use Rattle.coati_gen.specs.Generated.{generated}
 use Rattle.coati_top.specs.declared.command.Command.{Command}
-use Rattle.coati_top.specs.declared.command.Command.TheVariants.{Check, Dump, Run, Generate}
+use Rattle.coati_top.specs.declared.command.Command.TheVariants.{Check, Dump, Run, Replay, Generate, Load}
 use Rattle.coati_top.specs.declared.refusal.Refusal.{Refusal}
 use Rattle.coati_top.specs.declared.refusal.Refusal.TheVariants as refusal
 use Rattle.coati_top.specs.declared.source_fault.SourceFault.{SourceFault}
 use Rattle.coati_top.specs.declared.source_fault.SourceFault.TheVariants as source_fault
 use Rattle.task_check.specs.Accepted.{IsAccepted, IsRefusal}
+use Rattle.task_check.specs.WellFormed.{IsWellFormed}
 use Rattle.task_check.specs.declared.fault.CheckFault.TheVariants as check_fault
 use Rattle.task_check.specs.declared.rule.Rule.{Rule}
 use Rattle.coati_top.specs.declared.status.Status.{Status}
 use Rattle.coati_top.specs.declared.status.Status.TheVariants.{Ok, Usage, ReadFault, WriteFault, TooLarge, OutOfMemory}
-use Rattle.coati_top.specs.Answer.{Answers, Serves}
+use Rattle.coati_top.specs.Answer.{Answers, AsksFor, Serves}
 use Rattle.coati_top.specs.Answer.Answers.{refused, served}
-use Rattle.coati_top.specs.Call.{Answered, CommandEnded, HasRead, InputEdge, OutputEdge, input_limit}
+use Rattle.coati_io.specs.Writing.{OutputEdge}
+use Rattle.coati_top.specs.Call.{Answered, CommandEnded, HasRead, InputEdge, input_limit}
 use Rattle.coati_top.specs.Complete.{CanServe, EndsByInput, EndsUnlessStarved, Gives, IsGiven, IsUndisturbed}
 use Rattle.coati_top.specs.Divided.{second_part, source_part}
-use Rattle.coati_top.specs.Refused.{HasFaultyTrace, Refuses, status_of}
-use Rattle.coati_top.specs.Source.{HasProgram, IsSourceFault}
+use Rattle.coati_top.specs.Refused.{HasFaultyTrace, Refuses, RefusesReplay, RefusesRun, status_of}
+use Rattle.coati_top.specs.Replayed.{HasBadPrint, HasDifference, HasSerialPrint}
+use Rattle.coati_top.specs.Source.{HasAccepted, HasProgram, IsSourceFault}
 use Rattle.coati_top.specs.Words.{reads}
+use Rattle.coati_replay.specs.Laws.{SerialTextsAreLegal, VerdictsAreUnique}
+use Rattle.coati_replay.specs.Verdicts.{DiffersAt, IsSerial}
+use Rattle.coati_replay.specs.declared.verdict.Verdict.{Verdict}
+use Rattle.coati_replay.specs.declared.verdict.Verdict.TheVariants as verdict
+use Rattle.coati_word.specs.declared.mode.Mode.{Mode}
+use Rattle.serial_log.specs.declared.printed.Printed.{Printed}
 use Rattle.serial_log.specs.declared.script.Script.{Script}
+use Rattle.trace_out.specs.Printed.{IsBadLine, PrintedText}
 use Rattle.trace_text.specs.Trace.{FirstFault, TraceText}
 use Rattle.trace_text.specs.declared.fault.TraceFault.{TraceFault}
 use Rattle.task_syntax.specs.declared.program.Program.{Program}
 
 -- what is known of a source: it has at most one list of tokens, which is at most one program, and none beside a fault;
--- and of a trace: it is at most one script, and none beside a fault
+-- of a trace: it is at most one script, and none beside a fault; and of a printed text: it says one thing at most, and
+-- none beside a bad line, and is serial or differs
 pub record HasOneAnswer : Type 0 where
   pub tokens : (source : List ℕ) (tokens others : List Token) → Tokens source tokens → Tokens source others → tokens ≡ others
   pub lexical : (source : List ℕ) (tokens : List Token) (fault : LexFault) → Tokens source tokens → FaultsAt source fault → ⊥
@@ -49,6 +61,13 @@ pub record HasOneAnswer : Type 0 where
       → TraceText program text script → TraceText program text other → script ≡ other
   pub traced : (program : Program) (text : List ℕ) (script : Script) (fault : TraceFault)
       → TraceText program text script → FirstFault program text fault → ⊥
+  pub formed : (source : List ℕ) (tokens : List Token) (program : Program) → Tokens source tokens → Spells source tokens program → IsWellFormed program
+  pub printed : (program : Program) (text : List ℕ) (printed other : Printed) → IsAccepted program → IsWellFormed program
+      → PrintedText program text printed → PrintedText program text other → printed ≡ other
+  pub misprinted : (program : Program) (text : List ℕ) (printed : Printed) (number : ℕ) → IsAccepted program → IsWellFormed program
+      → PrintedText program text printed → IsBadLine program text number → ⊥
+  pub verdict : VerdictsAreUnique
+  pub legal : SerialTextsAreLegal
 
 -- an input that told of its bytes and was read to its end gave these
 whole_is_told : (old new : Option (List ℕ)) (max : ℕ) (bytes told : List ℕ) → old ≡ Some told → ReadsWhole old new max bytes → bytes ≡ told
@@ -95,30 +114,74 @@ module _ (one : HasOneAnswer) (bytes : List ℕ) (program : Program) (has : HasP
       one.traced program (second_part bytes) script fault trace
       (subst (λ (p : Program). FirstFault p (second_part bytes) fault) (sym (same_program faulty.program faulty.source.source)) faulty.first)
 
+  -- a printed text has no bad line
+  no_bad_print : IsAccepted program → (printed : Printed) → PrintedText program (second_part bytes) printed → (number : ℕ) → HasBadPrint bytes number → ⊥
+  no_bad_print accepted printed text number bad =
+      let formed : IsWellFormed program = one.formed (source_part bytes) has.tokens program has.read has.spelled in
+      one.misprinted program (second_part bytes) printed number accepted formed text
+      (subst (λ (p : Program). IsBadLine p (second_part bytes) number) (sym (same_program bad.program bad.source.source)) bad.bad)
+
+  -- the line where the input's printed text differs is a line of what this text says
+  difference_of : IsAccepted program → (mode : Mode) (printed : Printed) → PrintedText program (second_part bytes) printed → (number : ℕ)
+      → HasDifference mode bytes number → DiffersAt program mode printed number
+  difference_of accepted mode printed text number other =
+      let formed : IsWellFormed program = one.formed (source_part bytes) has.tokens program has.read has.spelled in
+      let same : other.program ≡ program = sym (same_program other.program other.says.source.source) in
+      let found : PrintedText program (second_part bytes) other.printed =
+      subst (λ (p : Program). PrintedText p (second_part bytes) other.printed) same other.says.text in
+      let said : other.printed ≡ printed = one.printed program (second_part bytes) other.printed printed accepted formed found text in
+      let here : DiffersAt program mode other.printed number = subst (λ (p : Program). DiffersAt p mode other.printed number) same other.differs in
+      subst (λ (q : Printed). DiffersAt program mode q number) said here
+
+-- an input that asks for a run is refused for nothing
+never_run : HasOneAnswer → (input : List ℕ) (program : Program) (script : Script) → AsksFor input program script
+    → (why : Refusal) → RefusesRun input why → ⊥
+never_run one input program script asked (refusal.Source fault) cause = no_fault one input program asked.source.source asked.source.accepted fault cause
+never_run one input program script asked (refusal.Trace fault) cause = no_faulty one input program asked.source.source script asked.trace fault cause
+never_run one input program script asked other cause = absurd cause
+
+-- what differs is not serial
+verdicts_apart : HasOneAnswer → (program : Program) (mode : Mode) (printed : Printed) (number : ℕ) → IsSerial program mode printed
+    → DiffersAt program mode printed number → ⊥
+verdicts_apart one program mode printed number serial differs =
+    let same : verdict.Serial ≡ verdict.Differs number = one.verdict program mode printed verdict.Serial (verdict.Differs number) serial differs in
+    absurd cc
+
+-- an input whose printed text is serial is refused for nothing
+never_replayed : HasOneAnswer → (mode : Mode) (input : List ℕ) → HasSerialPrint mode input → (why : Refusal) → RefusesReplay mode input why → ⊥
+never_replayed one mode input has (refusal.Source fault) cause =
+    no_fault one input has.program has.says.source.source has.says.source.accepted fault cause
+never_replayed one mode input has (refusal.Trace fault) cause = cause
+never_replayed one mode input has (refusal.BadPrint number) cause =
+    no_bad_print one input has.program has.says.source.source has.says.source.accepted has.printed has.says.text number cause
+never_replayed one mode input has (refusal.Differs number) cause =
+    let differs = difference_of one input has.program has.says.source.source has.says.source.accepted mode has.printed has.says.text number cause in
+    let serial : IsSerial has.program mode has.printed = (one.legal has.program mode has.printed has.says.text.printable.count).1 has.serial in
+    verdicts_apart one has.program mode has.printed number serial differs
+
 -- an input that a command serves is refused for nothing
 never_both : HasOneAnswer → (command : Command) (input text : List ℕ) (board : Option Whole) → Serves command input text board
     → (why : Refusal) → Refuses command input why → ⊥
 never_both one Check input text board shows (refusal.Source fault) cause = no_fault one input shows.program shows.source.source shows.source.accepted fault cause
-never_both one Check input text board shows (refusal.Trace fault) cause = cause
+never_both one Check input text board shows other cause = absurd cause
 never_both one Dump input text board shows (refusal.Source fault) cause = no_fault one input shows.program shows.source.source shows.source.accepted fault cause
-never_both one Dump input text board shows (refusal.Trace fault) cause = cause
-never_both one (Run mode) input text board shows (refusal.Source fault) cause =
-    no_fault one input shows.run.program shows.asked.source.source shows.asked.source.accepted fault cause
-never_both one (Run mode) input text board shows (refusal.Trace fault) cause =
-    no_faulty one input shows.run.program shows.asked.source.source shows.run.script shows.asked.trace fault cause
+never_both one Dump input text board shows other cause = absurd cause
+never_both one (Run mode) input text board shows why cause = never_run one input shows.run.program shows.run.script shows.asked why cause
+never_both one (Replay mode) input text board shows why cause = never_replayed one mode input shows.print why cause
 never_both one (Generate rounds) input text board shows why cause = cause
+never_both one (Load mode rounds) input text board shows why cause =
+    never_run one (generated rounds) shows.run.program shows.run.script shows.asked why cause
 
 -- nor is one that it can serve
 no_refusal : HasOneAnswer → (command : Command) (bytes : List ℕ) → CanServe command bytes → (why : Refusal) → Refuses command bytes why → ⊥
 no_refusal one Check bytes can (refusal.Source fault) cause = no_fault one bytes can.program can.source.source can.source.accepted fault cause
-no_refusal one Check bytes can (refusal.Trace fault) cause = cause
+no_refusal one Check bytes can other cause = absurd cause
 no_refusal one Dump bytes can (refusal.Source fault) cause = no_fault one bytes can.program can.source.source can.source.accepted fault cause
-no_refusal one Dump bytes can (refusal.Trace fault) cause = cause
-no_refusal one (Run mode) bytes can (refusal.Source fault) cause =
-    no_fault one bytes can.program can.asked.source.source can.asked.source.accepted fault cause
-no_refusal one (Run mode) bytes can (refusal.Trace fault) cause =
-    no_faulty one bytes can.program can.asked.source.source can.script can.asked.trace fault cause
+no_refusal one Dump bytes can other cause = absurd cause
+no_refusal one (Run mode) bytes can why cause = never_run one bytes can.program can.script can.asked why cause
+no_refusal one (Replay mode) bytes can why cause = never_replayed one mode bytes can why cause
 no_refusal one (Generate rounds) bytes can why cause = cause
+no_refusal one (Load mode rounds) bytes can why cause = never_run one (generated rounds) can.program can.script can.asked why cause
 
 -- so its only status is Ok
 served_answer : HasOneAnswer → (command : Command) (bytes : List ℕ) → CanServe command bytes
@@ -130,20 +193,54 @@ served_answer one command bytes can status text board (refused why cause is text
 not_faulty : HasOneAnswer → (bytes : List ℕ) (fault : SourceFault) (other : TraceFault) → IsSourceFault bytes fault → HasFaultyTrace bytes other → ⊥
 not_faulty one bytes fault other cause faulty = no_fault one bytes faulty.program faulty.source.source faulty.source.accepted fault cause
 
+-- nor does its printed text have a bad line, or a line that differs
+not_misprinted : HasOneAnswer → (bytes : List ℕ) (fault : SourceFault) (number : ℕ) → IsSourceFault bytes fault → HasBadPrint bytes number → ⊥
+not_misprinted one bytes fault number cause bad = no_fault one bytes bad.program bad.source.source bad.source.accepted fault cause
+
+not_different : HasOneAnswer → (mode : Mode) (bytes : List ℕ) (fault : SourceFault) (number : ℕ) → IsSourceFault bytes fault
+    → HasDifference mode bytes number → ⊥
+not_different one mode bytes fault number cause other =
+    no_fault one bytes other.program other.says.source.source other.says.source.accepted fault cause
+
+-- and a printed text that differs has no bad line
+not_both : HasOneAnswer → (mode : Mode) (bytes : List ℕ) (number bad : ℕ) → HasDifference mode bytes number → HasBadPrint bytes bad → ⊥
+not_both one mode bytes number bad other cause =
+    no_bad_print one bytes other.program other.says.source.source other.says.source.accepted other.printed other.says.text bad cause
+
+-- an input that asks for a run is refused with one status
+one_run_status : HasOneAnswer → (bytes : List ℕ) (why other : Refusal) → RefusesRun bytes why → RefusesRun bytes other
+    → status_of other ≡ status_of why
+one_run_status one bytes (refusal.Source fault) (refusal.Source found) cause known = refl
+one_run_status one bytes (refusal.Source fault) (refusal.Trace found) cause known = absurd (not_faulty one bytes fault found cause known)
+one_run_status one bytes (refusal.Source fault) other cause known = absurd known
+one_run_status one bytes (refusal.Trace fault) (refusal.Source found) cause known = absurd (not_faulty one bytes found fault known cause)
+one_run_status one bytes (refusal.Trace fault) (refusal.Trace found) cause known = refl
+one_run_status one bytes (refusal.Trace fault) other cause known = absurd known
+one_run_status one bytes why other cause known = absurd cause
+
 -- an input is refused with one status
 one_status : HasOneAnswer → (command : Command) (bytes : List ℕ) (why other : Refusal) → Refuses command bytes why → Refuses command bytes other
     → status_of other ≡ status_of why
 one_status one Check bytes (refusal.Source fault) (refusal.Source found) cause known = refl
-one_status one Check bytes (refusal.Source fault) (refusal.Trace found) cause known = absurd known
-one_status one Check bytes (refusal.Trace fault) other cause known = absurd cause
+one_status one Check bytes (refusal.Source fault) other cause known = absurd known
+one_status one Check bytes why other cause known = absurd cause
 one_status one Dump bytes (refusal.Source fault) (refusal.Source found) cause known = refl
-one_status one Dump bytes (refusal.Source fault) (refusal.Trace found) cause known = absurd known
-one_status one Dump bytes (refusal.Trace fault) other cause known = absurd cause
-one_status one (Run mode) bytes (refusal.Source fault) (refusal.Source found) cause known = refl
-one_status one (Run mode) bytes (refusal.Source fault) (refusal.Trace found) cause known = absurd (not_faulty one bytes fault found cause known)
-one_status one (Run mode) bytes (refusal.Trace fault) (refusal.Source found) cause known = absurd (not_faulty one bytes found fault known cause)
-one_status one (Run mode) bytes (refusal.Trace fault) (refusal.Trace found) cause known = refl
+one_status one Dump bytes (refusal.Source fault) other cause known = absurd known
+one_status one Dump bytes why other cause known = absurd cause
+one_status one (Run mode) bytes why other cause known = one_run_status one bytes why other cause known
+one_status one (Replay mode) bytes (refusal.Trace fault) other cause known = absurd cause
+one_status one (Replay mode) bytes why (refusal.Trace fault) cause known = absurd known
+one_status one (Replay mode) bytes (refusal.Source fault) (refusal.Source found) cause known = refl
+one_status one (Replay mode) bytes (refusal.Source fault) (refusal.BadPrint found) cause known = absurd (not_misprinted one bytes fault found cause known)
+one_status one (Replay mode) bytes (refusal.Source fault) (refusal.Differs found) cause known = absurd (not_different one mode bytes fault found cause known)
+one_status one (Replay mode) bytes (refusal.BadPrint number) (refusal.Source found) cause known = absurd (not_misprinted one bytes found number known cause)
+one_status one (Replay mode) bytes (refusal.BadPrint number) (refusal.BadPrint found) cause known = refl
+one_status one (Replay mode) bytes (refusal.BadPrint number) (refusal.Differs found) cause known = absurd (not_both one mode bytes found number known cause)
+one_status one (Replay mode) bytes (refusal.Differs number) (refusal.Source found) cause known = absurd (not_different one mode bytes found number known cause)
+one_status one (Replay mode) bytes (refusal.Differs number) (refusal.BadPrint found) cause known = absurd (not_both one mode bytes number found cause known)
+one_status one (Replay mode) bytes (refusal.Differs number) (refusal.Differs found) cause known = refl
 one_status one (Generate rounds) bytes why other cause known = absurd cause
+one_status one (Load mode rounds) bytes why other cause known = one_run_status one (generated rounds) why other cause known
 
 -- the only status of what is refused is that of its refusal
 refused_answer : HasOneAnswer → (command : Command) (bytes : List ℕ) (why : Refusal) → Refuses command bytes why

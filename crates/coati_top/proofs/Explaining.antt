@@ -13,8 +13,12 @@ use Rattle.coati_top.specs.Answer.Answers.{refused, served}
 use Rattle.coati_top.specs.Refusal.{too_large_text}
 use Rattle.coati_top.specs.Refused.{status_of}
 use Rattle.coati_top.specs.Words.{reads}
-use Rattle.coati_top.specs.Call.{InputEdge, OutputEdge, WritesAll, WritesFront, WritesOrFails, Answered, CommandEnded, HasRead, after_fault, Delivers, DeliversAnswer, input_limit}
+use Rattle.coati_io.specs.Writing.{OutputEdge, WritesAll, WritesFront, WritesOrFails}
+use Rattle.coati_top.specs.Call.{InputEdge, Answered, CommandEnded, HasRead, after_fault, Delivers, DeliversAnswer, Tells, input_limit}
 use Rattle.coati_top.specs.Call.DeliversAnswer.{delivered, starved}
+use Rattle.coati_top.specs.Call.Tells.{unwritten, written}
+use Rattle.coati_top.specs.declared.served.Served.{Served}
+use Rattle.coati_top.specs.Served.{served_board, served_text}
 
 -- what a command has read, by whether it reads
 pub read_whole : (command : Command) (input : InputEdge) (bytes : List ℕ) → reads command ≡ true
@@ -33,12 +37,12 @@ module _ (command : Command) (input : InputEdge) (output : OutputEdge) (board : 
     -- the command's answer, with its text written so
     answered : (before known : Status) (text : List ℕ) (Writing : List ℕ → Type 0) → before ≡ known → Answers command bytes before text board
         → Writing text → Answered command known input board Writing
-    answered before known text Writing is answers written = record {
+    answered before known text Writing is answers was_written = record {
       bytes = bytes;
       read = read;
       text = text;
       answers = subst (λ (s : Status). Answers command bytes s text board) is answers;
-      written = written;
+      written = was_written;
     }
 
     -- an input that was served
@@ -54,10 +58,14 @@ module _ (command : Command) (input : InputEdge) (output : OutputEdge) (board : 
         → CommandEnded command (status_of why) input output board
     refused_ended (refusal.Source fault) answers = answers
     refused_ended (refusal.Trace fault) answers = answers
+    refused_ended (refusal.BadPrint number) answers = answers
+    refused_ended (refusal.Differs number) answers = answers
 
     status_stays : (why : Refusal) → after_fault (status_of why) ≡ status_of why
     status_stays (refusal.Source fault) = refl
     status_stays (refusal.Trace fault) = refl
+    status_stays (refusal.BadPrint number) = refl
+    status_stays (refusal.Differs number) = refl
 
     ended_refused : (status before : Status) (text : List ℕ) (why : Refusal) → before ≡ status_of why → Answers command bytes before text board
         → Delivers before status output text → CommandEnded command status input output board
@@ -82,3 +90,11 @@ module _ (command : Command) (input : InputEdge) (output : OutputEdge) (board : 
       → Delivers TooLarge status output too_large_text → board ≡ None → CommandEnded command status input output board
   ended_too_large status does consumed (inl all) none = ended_at status TooLarge all.0 (does, consumed, inl all.1, none)
   ended_too_large status does consumed (inr front) none = ended_at status TooLarge front.0 (does, consumed, inr front.1, none)
+
+-- what a command gives is delivered as its answer
+pub tells_answer : (command : Command) (bytes : List ℕ) (output : OutputEdge) (board : Option Whole) (before status : Status) (told : Served)
+    → Answers command bytes before (served_text told) (served_board told) → Tells before told status output board
+    → DeliversAnswer command bytes status output board
+tells_answer command bytes output board before status told answers (written delivers is) =
+    delivered before (served_text told) (subst (λ (b : Option Whole). Answers command bytes before (served_text told) b) (sym is) answers) delivers
+tells_answer command bytes output board before status told answers (unwritten is nothing none) = starved is nothing none

@@ -2,13 +2,13 @@ pub mod Accepting
 pub mod Completing
 pub mod Dividers
 pub mod Explaining
-pub mod HeldCounts
-pub mod NamesAt
 pub mod Numbered
 pub mod OnlyNames
 pub mod Running
 pub mod Scripts
+pub mod SourcesRefused
 pub mod SpelledNames
+pub mod Tallies
+pub mod TextsOfPrograms
 pub mod TokenCounts
-pub mod Values
 pub mod WellFormed

@@ -9,14 +9,16 @@ use Rattle.codegen.specs.Listing.{listing}
 use Rattle.coati_gen.specs.Generated.{generated}
 use Rattle.trace_text.specs.Trace.{TraceText}
 use Rattle.coati_top.specs.declared.command.Command.{Command}
-use Rattle.coati_top.specs.declared.command.Command.TheVariants.{Check, Dump, Run, Generate}
+use Rattle.coati_top.specs.declared.command.Command.TheVariants.{Check, Dump, Run, Replay, Generate, Load}
 use Rattle.coati_top.specs.declared.refusal.Refusal.{Refusal}
 use Rattle.coati_top.specs.declared.status.Status.{Status}
 use Rattle.coati_top.specs.declared.status.Status.TheVariants.{Ok}
 use Rattle.coati_top.specs.CheckText.{check_text}
 use Rattle.coati_top.specs.Divided.{second_part}
-use Rattle.coati_top.specs.Printed.{board_text}
+use Rattle.trace_out.specs.BoardText.{board_text}
+use Rattle.coati_top.specs.Loaded.{load_text}
 use Rattle.coati_top.specs.Refused.{Refuses, status_of, text_of}
+use Rattle.coati_top.specs.Replayed.{HasSerialPrint, serial_text}
 use Rattle.coati_top.specs.Runs.{IsRun}
 use Rattle.coati_top.specs.Source.{HasAccepted}
 
@@ -42,13 +44,31 @@ pub record ShowsRun (mode : Mode) (input text : List ℕ) (board : Option Whole)
   pub text_is : text ≡ board_text run
   pub kept : board ≡ Some run
 
+-- the printed text of the input is serial and legal for the mode, which is said
+pub record ShowsSerial (mode : Mode) (input text : List ℕ) (board : Option Whole) : Type 0 where
+  pub print : HasSerialPrint mode input
+  pub text_is : text ≡ serial_text
+  pub no_run : board ≡ None
+
+-- the run that the generated input of so many rounds asks for was made in this mode, and the text is
+-- its summary
+pub record ShowsLoad (mode : Mode) (rounds : ℕ) (text : List ℕ) (board : Option Whole)
+    : Type 0 where
+  pub run : Whole
+  pub asked : AsksFor (generated rounds) run.program run.script
+  pub made : IsRun mode run
+  pub text_is : text ≡ load_text mode rounds run
+  pub kept : board ≡ Some run
+
 -- what a command gives to an input that it serves: its text, and the board of the run where one
 -- was made
 abbrev pub Serves : Command → List ℕ → List ℕ → Option Whole → Type 0
 Serves Check input text board = ShowsProgram check_text input text board
 Serves Dump input text board = ShowsProgram listing input text board
 Serves (Run mode) input text board = ShowsRun mode input text board
+Serves (Replay mode) input text board = ShowsSerial mode input text board
 Serves (Generate rounds) input text board = (text ≡ generated rounds) × (board ≡ None)
+Serves (Load mode rounds) input text board = ShowsLoad mode rounds text board
 
 -- the answer of a command to an input: its status, its text, and the board of the run where one
 -- was made

@@ -1,14 +1,16 @@
 -- What a call of the program did at its two ends, and why it ended with its status.
-use Rattle.std.specs.Prelude.{◌≡◌, ◌⊎◌, ℕ, ◌+◌, ◌<◌, ◌≤◌, Bool, true, false, List, [], length, take, Option, Some, None}
-use Rattle.std.specs.Io.KnownBytes.{Appends}
+use Rattle.std.specs.Prelude.{◌≡◌, ◌⊎◌, ℕ, ◌+◌, Bool, true, false, List, [], Option, Some, None}
 use Rattle.coati_io.specs.Causes.{Rose}
 use Rattle.coati_io.specs.Ends.{ReadsWhole, ConsumesExactly}
+use Rattle.coati_io.specs.Writing.{OutputEdge, WritesAll, WritesFront, WritesNothing, WritesOrFails}
 use Rattle.coati_top.specs.declared.command.Command.{Command}
 use Rattle.coati_top.specs.declared.status.Status.{Status}
 use Rattle.coati_top.specs.declared.status.Status.TheVariants.{Ok, Usage, ReadFault, WriteFault, TooLarge, OutOfMemory}
 use Rattle.coati_board.specs.Board.{Whole}
 use Rattle.coati_top.specs.Answer.{Answers}
 use Rattle.coati_top.specs.Refusal.{usage_text, too_large_text}
+use Rattle.coati_top.specs.declared.served.Served.{Served}
+use Rattle.coati_top.specs.Served.{served_board, served_text}
 use Rattle.coati_top.specs.Words.{reads}
 
 -- the input of a call: the bytes still to come, where it tells of them, and its count of faults,
@@ -19,15 +21,6 @@ pub record InputEdge : Type 0 where
   pub before : ℕ
   pub after : ℕ
 
--- the output of a call: the bytes taken, where it tells of them, its count of faults, and how many
--- bytes it has room for at first
-pub record OutputEdge : Type 0 where
-  pub old : Option (List ℕ)
-  pub new : Option (List ℕ)
-  pub before : ℕ
-  pub after : ℕ
-  pub room : ℕ
-
 abbrev pub input_edge : {S : Type 0} → (S → Option (List ℕ)) → (S → ℕ) → S → S → InputEdge
 input_edge left faults old new = record {
   old = left old;
@@ -35,17 +28,6 @@ input_edge left faults old new = record {
   before = faults old;
   after = faults new;
 }
-
-abbrev pub output_edge : {K : Type 0} → (K → Option (List ℕ)) → (K → ℕ) → (K → ℕ) → K → K →
-    OutputEdge
-output_edge taken faults spare old new =
-    record {
-      old = taken old;
-      new = taken new;
-      before = faults old;
-      after = faults new;
-      room = spare old;
-    }
 
 -- the greatest input, in bytes
 abbrev pub input_limit : ℕ
@@ -55,37 +37,10 @@ input_limit = 262144
 abbrev pub ReadingFailed : InputEdge → Type 0
 ReadingFailed input = Rose input.before input.after
 
--- the output's count of faults rose
-abbrev pub WritingFailed : OutputEdge → Type 0
-WritingFailed output = Rose output.before output.after
-
 -- nothing was read, and no fault was counted
 pub record ReadsNothing (input : InputEdge) : Type 0 where
   pub nothing : input.new ≡ input.old
   pub steady : input.after ≡ input.before
-
--- nothing was written, and no fault was counted
-pub record WritesNothing (output : OutputEdge) : Type 0 where
-  pub nothing : output.new ≡ output.old
-  pub steady : output.after ≡ output.before
-
--- all of the text was written; where there was room for it, no fault was counted
-pub record WritesAll (output : OutputEdge) (text : List ℕ) : Type 0 where
-  pub whole : Appends output.old output.new text
-  pub steady : length text ≤ output.room → output.after ≡ output.before
-
--- the output failed, which it does only where there is no room for all of the text, and a front of
--- the text was written, and not all of it
-pub record WritesFront (output : OutputEdge) (text : List ℕ) : Type 0 where
-  pub failed : WritingFailed output
-  pub short : output.room < length text
-  pub sent : ℕ
-  pub some_left : sent < length text
-  pub front : Appends output.old output.new (take sent text)
-
--- all of the text was written, or the output failed and a front of it was
-abbrev pub WritesOrFails : OutputEdge → List ℕ → Type 0
-WritesOrFails output text = WritesAll output text ⊎ WritesFront output text
 
 -- a command that reads has read these bytes, which are all and within the limit; another has none
 abbrev pub HasRead : Bool → InputEdge → List ℕ → Type 0
@@ -138,6 +93,14 @@ abbrev pub Delivers : Status → Status → OutputEdge → List ℕ → Type 0
 Delivers status result output text =
     ((result ≡ status) × WritesAll output text)
     ⊎ ((result ≡ after_fault status) × WritesFront output text)
+
+-- what a command gives was delivered, or memory ran out before anything was written
+pub data Tells (before : Status) (told : Served) (status : Status) (output : OutputEdge)
+    (board : Option Whole) : Type 0 where
+  written : Delivers before status output (served_text told) → board ≡ served_board told →
+      Tells before told status output board
+  unwritten : status ≡ OutOfMemory → WritesNothing output → board ≡ None →
+      Tells before told status output board
 
 -- a command's answer to these bytes was delivered, or memory ran out before anything was written
 pub data DeliversAnswer (command : Command) (bytes : List ℕ) (status : Status)

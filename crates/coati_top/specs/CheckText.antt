@@ -9,7 +9,7 @@ use Rattle.task_check.specs.Numbers.{buffer_size}
 use Rattle.task_cost.specs.Bodies.{event_cost, task_cost}
 use Rattle.task_cost.specs.Limits.{bounds_of}
 use Rattle.task_cost.specs.declared.limits.Bounds.{Bounds}
-use Rattle.coati_top.specs.Lines.{number_line}
+use Rattle.trace_out.specs.Lines.{number_line}
 
 -- what a task or an event of a name costs
 abbrev pub cost_line : List ℕ → List ℕ → ℕ → List ℕ

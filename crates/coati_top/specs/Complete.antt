@@ -2,12 +2,15 @@
 use Rattle.std.specs.Prelude.{◌≡◌, ◌⊎◌, ◌≢◌, ◌≤◌, ℕ, Bool, true, false, List, [], length, Option, Some, None}
 use Rattle.task_syntax.specs.declared.program.Program.{Program}
 use Rattle.serial_log.specs.declared.script.Script.{Script}
+use Rattle.coati_gen.specs.Generated.{generated}
 use Rattle.coati_top.specs.Answer.{AsksFor}
-use Rattle.coati_top.specs.Call.{InputEdge, OutputEdge, ReadingFailed, WritingFailed, input_limit}
+use Rattle.coati_io.specs.Writing.{OutputEdge, WritingFailed}
+use Rattle.coati_top.specs.Call.{InputEdge, ReadingFailed, input_limit}
 use Rattle.coati_top.specs.declared.command.Command.{Command}
-use Rattle.coati_top.specs.declared.command.Command.TheVariants.{Check, Dump, Run}
+use Rattle.coati_top.specs.declared.command.Command.TheVariants.{Check, Dump, Run, Replay, Generate, Load}
 use Rattle.coati_top.specs.declared.refusal.Refusal.{Refusal}
 use Rattle.coati_top.specs.Refused.{Refuses, status_of}
+use Rattle.coati_top.specs.Replayed.{HasSerialPrint}
 use Rattle.coati_top.specs.Source.{HasAccepted}
 use Rattle.coati_top.specs.Words.{reads}
 use Rattle.coati_top.specs.declared.status.Status.{Status}
@@ -41,12 +44,15 @@ pub record IsRunnable (bytes : List ℕ) : Type 0 where
   pub script : Script
   pub asked : AsksFor bytes program script
 
--- an input of these bytes has what the command asks of it; one that does not read asks nothing
+-- an input of these bytes has what the command asks of it; in `load` the generated input stands in
+-- their place
 abbrev pub CanServe : Command → List ℕ → Type 0
 CanServe Check bytes = IsMeasurable bytes
 CanServe Dump bytes = IsMeasurable bytes
 CanServe (Run mode) bytes = IsRunnable bytes
-CanServe _ bytes = Unit {0}
+CanServe (Replay mode) bytes = HasSerialPrint mode bytes
+CanServe (Generate rounds) bytes = Unit {0}
+CanServe (Load mode rounds) bytes = IsRunnable (generated rounds)
 
 -- the call ends so, unless memory ran out
 abbrev pub EndsUnlessStarved : Status → Status → Type 0

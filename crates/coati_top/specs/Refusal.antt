@@ -3,7 +3,7 @@ use Rattle.std.specs.Prelude.{ℕ, List, ◌++◌, codes, decimal}
 use Rattle.task_check.specs.Accepted.{number_of}
 use Rattle.task_check.specs.declared.rule.Rule.{Rule}
 use Rattle.task_check.specs.declared.rule.Rule.TheVariants.{TwiceNamed, Unknown, WrongKind, BadCount, BadBuffer, TooManyWords, TooManyTasks, NoEnding, EarlyEnding, IntoTx, TopReadsNv, GiveShape, LoopAssigned, TooManyLocals, TooDeepStack, TooLong}
-use Rattle.coati_top.specs.Lines.{word_and_number}
+use Rattle.trace_out.specs.Lines.{word_and_number}
 use Rattle.coati_top.specs.declared.source_fault.SourceFault.{SourceFault}
 use Rattle.coati_top.specs.declared.source_fault.SourceFault.TheVariants as fault
 
@@ -38,7 +38,7 @@ abbrev pub source_refusal : SourceFault → List ℕ
 source_refusal fault = codes "refused " ++ fault_text fault ++ codes "\n"
 
 abbrev pub usage_text : List ℕ
-usage_text = codes "usage: coati check | dump | run MODE | live MODE | replay MODE | gen N\n"
+usage_text = codes "usage: coati check | dump | run MODE | live MODE | replay MODE | gen N | load MODE N\n"
 
 abbrev pub too_large_text : List ℕ
 too_large_text = codes "input too large\n"

@@ -1,5 +1,5 @@
 -- A run: from the board that was opened to its end by the script, where it is ended.
-use Rattle.std.specs.Prelude.{◌≡◌, List, [], ◌∷◌, ◌++◌, None}
+use Rattle.std.specs.Prelude.{◌≡◌, ◌≤◌, List, [], ◌∷◌, ◌++◌, None}
 use Rattle.coati_word.specs.declared.mode.Mode.{Mode}
 use Rattle.coati_word.specs.declared.mode.Mode.TheVariants.{Buffi, Split}
 use Rattle.nv_memory.specs.State.{state}
@@ -34,17 +34,19 @@ pub record IsClosedBy (end : End) (run : Whole) : Type 0 where
   pub only : end_of before ≡ None
 
 -- The board of a run in a mode: it was opened for its program and its script, ran to its end, and
--- was ended there, with one End mark, the last. Each posting was raised in its turn. The history
--- is legal, and so a serial run of the program; memory stands for where the history leads, what is
--- held with it; the boots are at the ends of the power periods; and events were served between
--- units.
+-- was ended there, within the limit, with one End mark, the last. Each posting was raised in its
+-- turn. The history is legal, and so a serial run of the program; memory stands for where the
+-- history leads, what is held with it; the boots are at the ends of the power periods; and events
+-- were served between units.
 pub record IsRun (mode : Mode) (run : Whole) : Type 0 where
+  pub mode_is : run.mode ≡ mode
   pub start : Whole
   pub opened : IsOpened run.program mode run.script start
   pub end : End
   pub ran : HasRun start end run
   pub closed : IsClosedBy end run
   pub ended : IsEndedBy end run
+  pub limit : run.device.steps ≤ run.script.limit
   pub in_turn : ArePostingsInTurn run.script.postings run.device.history.marks
   pub legal : IsLegalHistory (terms_of run.program mode) run.device.history
   pub serial : SerialRun run.program run.device.history

@@ -2,7 +2,7 @@
 use Rattle.std.specs.Prelude.{ℕ, List, [], ◌++◌, codes}
 use Rattle.trace_text.specs.declared.fault.TraceFault.{TraceFault}
 use Rattle.trace_text.specs.declared.fault.TraceFault.TheVariants.{BadLine, Unknown, Order, TooMany, NoLimit, OutOfMemory}
-use Rattle.coati_top.specs.Lines.{word_and_number}
+use Rattle.trace_out.specs.Lines.{word_and_number}
 
 -- the line of this number, counted from 1, and the word for what is wrong with it
 abbrev pub line_refusal : ℕ → List ℕ → List ℕ

@@ -1,12 +1,12 @@
 ghost use Rattle.std.specs.Prelude.{◌≤◌, length, IfOk};
 ghost use Rattle.coati_top.specs.Answer.{Answers};
 ghost use Rattle.coati_top.specs.Refused.{Refuses};
+ghost use Rattle.coati_top.specs.Served.{served_board, served_text};
 ghost use Rattle.coati_top.specs.Words.{IsServable};
 
 use crate::refusal::{Refusal, Unserved};
-use crate::served::serve;
+use crate::served::{Served, serve};
 use crate::{Command, Status};
-use coati_board::Board;
 use coati_word::OutOfMemory;
 use std::alloc::Global;
 
@@ -14,23 +14,20 @@ use std::alloc::Global;
 #[derive(Drop)]
 pub(crate) struct Reply {
     pub(crate) status: Status,
-    pub(crate) text: Vec<u8>,
-    /// The board of the run, where one was made.
-    pub(crate) board: Option<Board>,
+    pub(crate) told: Served,
 }
 
 /// The command's answer to the input.
 pub(crate) fn reply_to(alloc: Global, command: Command, input: &[u8]) -> Result<Reply, OutOfMemory>
     requires small { length input.now ≤ 262144 }
     requires servable { IsServable command }
-    ensures { IfOk result (λ reply. Answers command input.now reply.status reply.text.items
-        reply.board) }
+    ensures { IfOk result (λ reply. Answers command input.now reply.status
+        (served_text reply.told) (served_board reply.told)) }
 {
     match serve(alloc, command, input) {
-        Ok(given) => Ok(Reply {
+        Ok(told) => Ok(Reply {
             status: Status::Ok,
-            text: given.text,
-            board: given.board,
+            told,
         }),
         Err(Unserved::Refused(refusal)) => refused(alloc, command, input, refusal),
         Err(Unserved::OutOfMemory) => Err(OutOfMemory),
@@ -45,13 +42,12 @@ fn refused(
     refusal: Refusal,
 ) -> Result<Reply, OutOfMemory>
     requires { Refuses command input.now refusal }
-    ensures { IfOk result (λ reply. Answers command input.now reply.status reply.text.items
-        reply.board) }
+    ensures { IfOk result (λ reply. Answers command input.now reply.status
+        (served_text reply.told) (served_board reply.told)) }
 {
     let text = refusal.text(alloc)?;
     Ok(Reply {
         status: refusal.status(),
-        text,
-        board: None,
+        told: Served::Text(text),
     })
 }

@@ -2,12 +2,12 @@ ghost use Rattle.std.specs.Prelude.{◌≡◌, ◌++◌, IfOk, OnOk, flat_map};
 ghost use Rattle.task_syntax.specs.Names.{tasks};
 ghost use Rattle.coati_top.specs.CheckText.{bounds_line, check_text, cost_line, event_line, task_line};
 
-use crate::output::{put, put_number, put_number_line};
 use coati_word::OutOfMemory;
 use std::alloc::Global;
 use task_check::Checked;
 use task_cost::{Bounds, body_cost, bounds};
 use task_syntax::BodyId;
+use trace_out::{put, put_number, put_number_line};
 
 /// What is said of an accepted program: its words, its buffer, what its tasks and events cost, and
 /// its bounds.

@@ -1,5 +1,5 @@
-ghost use Rattle.std.specs.Prelude.{◌≡◌, IfSome, map, string_bytes};
-ghost use Rattle.coati_top.specs.Words.{IsServable, command_of, generating, mode_of, reads};
+ghost use Rattle.std.specs.Prelude.{◌≡◌, ◌≤◌, IfSome, map, string_bytes};
+ghost use Rattle.coati_top.specs.Words.{IsServable, command_of, greatest_rounds, loading, mode_of, reads, rounds_of};
 
 use coati_word::Mode;
 use trace_text::number_in;
@@ -13,8 +13,12 @@ pub enum Command {
     Dump,
     /// Run the source of the input, with the events in this mode.
     Run(Mode),
+    /// Tell whether the printed text of the input is a serial run of its source, in this mode.
+    Replay(Mode),
     /// Give a source and a trace of so many rounds.
     Generate(u16),
+    /// Run the source and the trace of so many rounds, with the events in this mode, and sum up.
+    Load(Mode, u16),
 }
 
 impl Command {
@@ -23,8 +27,8 @@ impl Command {
         ensures { result ≡ reads self }
     {
         match self {
-            Command::Check | Command::Dump | Command::Run(_) => true,
-            Command::Generate(_) => false,
+            Command::Check | Command::Dump | Command::Run(_) | Command::Replay(_) => true,
+            Command::Generate(_) | Command::Load(..) => false,
         }
     }
 }
@@ -38,7 +42,9 @@ pub fn command_of(words: &[String]) -> Option<Command>
         [command] if command.as_str() == "check" => Some(Command::Check),
         [command] if command.as_str() == "dump" => Some(Command::Dump),
         [command, mode] if command.as_str() == "run" => mode_of(mode).map(Command::Run),
-        [command, rounds] if command.as_str() == "gen" => generating(rounds.as_str()),
+        [command, mode] if command.as_str() == "replay" => mode_of(mode).map(Command::Replay),
+        [command, rounds] if command.as_str() == "gen" => rounds_of(rounds).map(Command::Generate),
+        [command, mode, rounds] if command.as_str() == "load" => loading(mode, rounds),
         _ => None,
     }
 }
@@ -57,12 +63,21 @@ fn mode_of(word: &String) -> Option<Mode>
 /// The greatest number of rounds.
 const ROUNDS: u32 = 200;
 
-/// The command to give an input of so many rounds, where the word is the decimal of a number of
-/// rounds that is given.
-fn generating(rounds: &str) -> Option<Command>
-    ensures command { result ≡ generating rounds.now }
+/// The number of rounds of which the word is the decimal.
+fn rounds_of(word: &String) -> Option<u16>
+    ensures rounds { result ≡ rounds_of (string_bytes word.now) }
+    ensures few { IfSome result (λ rounds. rounds ≤ greatest_rounds) }
+{
+    let rounds = number_in(0, ROUNDS, word.as_bytes())?;
+    Some(rounds as u16)
+}
+
+/// The command to load a mode, where the words are a mode and a number of rounds.
+fn loading(mode: &String, rounds: &String) -> Option<Command>
+    ensures command { result ≡ loading (string_bytes mode.now) (string_bytes rounds.now) }
     ensures served { IfSome result IsServable }
 {
-    let rounds = number_in(0, ROUNDS, rounds.as_bytes())?;
-    Some(Command::Generate(rounds as u16))
+    let mode = mode_of(mode)?;
+    let rounds = rounds_of(rounds)?;
+    Some(Command::Load(mode, rounds))
 }

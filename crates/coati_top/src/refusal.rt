@@ -5,6 +5,7 @@ use crate::Status;
 use crate::source_fault::SourceFault;
 use crate::source_refusal::source_refusal;
 use crate::trace_refusal::trace_refusal;
+use crate::verdict_text::{bad_print, difference};
 use coati_word::OutOfMemory;
 use std::alloc::Global;
 use trace_text::TraceFault;
@@ -16,6 +17,10 @@ pub(crate) enum Refusal {
     Source(SourceFault),
     /// Its second part is no trace.
     Trace(TraceFault),
+    /// Its second part is no printed text, first at this line.
+    BadPrint(u32),
+    /// Its printed text is not serial and legal, first at this line.
+    Differs(u32),
 }
 
 impl Refusal {
@@ -25,7 +30,8 @@ impl Refusal {
     {
         match self {
             Refusal::Source(_) => Status::Refused,
-            Refusal::Trace(_) => Status::BadTrace,
+            Refusal::Trace(_) | Refusal::BadPrint(_) => Status::BadTrace,
+            Refusal::Differs(_) => Status::Differs,
         }
     }
 
@@ -36,6 +42,8 @@ impl Refusal {
         match self {
             Refusal::Source(fault) => source_refusal(alloc, fault),
             Refusal::Trace(fault) => trace_refusal(alloc, fault),
+            Refusal::BadPrint(number) => bad_print(alloc, number),
+            Refusal::Differs(number) => difference(alloc, number),
         }
     }
 }

@@ -2,11 +2,11 @@ ghost use Rattle.std.specs.Prelude.{◌≡◌, ◌++◌, IfOk, OnOk};
 ghost use Rattle.coati_top.specs.Refusal.{fault_text, rule_text, source_refusal};
 ghost use Rattle.task_check.specs.Accepted.{number_of};
 
-use crate::output::{put, put_number};
 use crate::source_fault::SourceFault;
 use coati_word::OutOfMemory;
 use std::alloc::Global;
 use task_check::Rule;
+use trace_out::{put, put_number};
 
 /// The line that says what is wrong with a source.
 pub(crate) fn source_refusal(alloc: Global, fault: SourceFault) -> Result<Vec<u8>, OutOfMemory>

@@ -1,16 +1,22 @@
 ghost use Rattle.std.specs.Prelude.{◌≡◌, ◌≤◌, length, map, string_bytes, None, Some};
-ghost use Rattle.coati_top.specs.Call.{input_edge, output_edge, after_fault, CallEnded, CommandEnded, Delivers, DeliversAnswer, LeavesInput};
+ghost use Rattle.coati_io.specs.Writing.{output_edge};
+ghost use Rattle.coati_top.specs.Call.{input_edge, after_fault, CallEnded, CommandEnded, Delivers, DeliversAnswer, LeavesInput, Tells};
 ghost use Rattle.coati_top.specs.Complete.{Completes, IsSteadyInput};
 ghost use Rattle.coati_top.specs.Words.{IsServable, command_of};
 
 use crate::answer::{Reply, reply_to};
+use crate::laws::spelled_programs_are_well_formed;
+use crate::served::Served;
 use crate::{Command, Done, Status, command_of};
+use coati_board::Board;
 use coati_io::{ReadEnd, Sink, Source, read_all, write_all};
+use coati_replay::{serial_texts_are_legal, verdicts_are_unique};
 use coati_word::limits::INPUT_BYTES;
 use std::alloc::Global;
 use task_check::laws::refused_is_not_accepted;
 use task_lex::each_source_has_one_answer;
 use task_parse::{a_list_is_one_program, each_list_has_one_answer};
+use trace_out::{PrintEnd, each_text_says_one_thing, print};
 use trace_text::each_text_has_one_answer;
 
 /// Does what the words say, from the input to the output. It returns, whatever these do.
@@ -36,6 +42,10 @@ pub fn coati_still<S: Source, K: Sink>(
     each_list_has_one_answer();
     refused_is_not_accepted();
     each_text_has_one_answer();
+    spelled_programs_are_well_formed();
+    each_text_says_one_thing();
+    verdicts_are_unique();
+    serial_texts_are_legal();
     match command_of(words) {
         None => Done {
             status: deliver(output, Status::Usage, USAGE),
@@ -45,7 +55,8 @@ pub fn coati_still<S: Source, K: Sink>(
     }
 }
 
-const USAGE: &[u8] = b"usage: coati check | dump | run MODE | live MODE | replay MODE | gen N\n";
+const USAGE: &[u8] =
+    b"usage: coati check | dump | run MODE | live MODE | replay MODE | gen N | load MODE N\n";
 
 /// Does what a command says.
 fn run<S: Source, K: Sink>(alloc: Global, command: Command, input: &mut S, output: &mut K) -> Done
@@ -79,17 +90,34 @@ fn answer<K: Sink>(alloc: Global, command: Command, bytes: &[u8], output: &mut K
         (output_edge K.taken K.faults K.spare output.old output.new) result.board }
 {
     match reply_to(alloc, command, bytes) {
-        Ok(
-            Reply {
-                status,
-                text,
-                board,
-            },
-        ) => Done {
-            status: deliver(output, status, &text),
-            board,
-        },
+        Ok(Reply { status, told }) => tell(alloc, status, told, output),
         Err(_) => without_board(Status::OutOfMemory),
+    }
+}
+
+/// Writes what a command gives. A run's text is written while it is made.
+fn tell<K: Sink>(alloc: Global, status: Status, told: Served, output: &mut K) -> Done
+    ensures { Tells status told result.status
+        (output_edge K.taken K.faults K.spare output.old output.new) result.board }
+{
+    match told {
+        Served::Text(text) => without_board(deliver(output, status, &text)),
+        Served::Run(board) => match print(alloc, &board, output) {
+            Ok(()) => with_board(status, board),
+            Err(PrintEnd::Fault) => with_board(after_fault(status), board),
+            Err(PrintEnd::OutOfMemory) => without_board(Status::OutOfMemory),
+        },
+        Served::Load(text, board) => with_board(deliver(output, status, &text), board),
+    }
+}
+
+fn with_board(status: Status, board: Board) -> Done
+    ensures status { result.status ≡ status }
+    ensures board { result.board ≡ Some board }
+{
+    Done {
+        status,
+        board: Some(board),
     }
 }
 

@@ -1,9 +1,9 @@
 ghost use Rattle.std.specs.Prelude.{◌≡◌, IfOk};
 ghost use Rattle.coati_top.specs.TraceRefusal.{line_refusal, trace_refusal};
 
-use crate::output::{put, put_number};
 use coati_word::OutOfMemory;
 use std::alloc::Global;
+use trace_out::{put, put_number};
 use trace_text::TraceFault;
 
 /// The line that says what is wrong with a trace.

@@ -26,6 +26,7 @@ returns-clause-run c =
     let made = c.in_ok-reserve.ensures in
     let ran = c.run_scripted-end.ensures in
     let end = c.run_scripted-end.result in
+    let counted = c.executor_steps-steps.ensures in
     let told = c.history-history.ensures in
     let first = opened_with_room c.args.checked c.args.mode c.args.script c.in_ok-board.board start
     c.in_ok-board.ensures made.run made.same in
@@ -33,6 +34,7 @@ returns-clause-run c =
     let script : run.script ≡ c.args.script = ran.run.script ∙ first.script_is in
     let mode : run.mode ≡ c.args.mode = ran.run.mode ∙ first.mode_is in
     record {
+      mode_is = mode;
       start = start;
       opened = subst (λ (p : Program). IsOpened p c.args.mode run.script start) (sym program)
           (subst (λ (s : Script). IsOpened c.args.checked c.args.mode s start) (sym script) first);
@@ -42,6 +44,7 @@ returns-clause-run c =
       ended = ended_by end run
           (λ is. subst (λ (s : Script). (turns_of s.postings run.device.history.marks).left ≡ []) (sym ran.run.script) (ran.all is))
           ran.limit;
+      limit = subst (λ (n : ℕ). n ≤ run.script.limit) counted.steps counted.within;
       in_turn = subst (λ (s : Script). ArePostingsInTurn s.postings run.device.history.marks) (sym ran.run.script) ran.turns;
       legal = subst (λ (m : Mode). IsLegalHistory (terms_of run.program m) run.device.history) mode told.legal;
       serial = (c.legal_histories_keep_each_fact.ensures (terms_of run.program run.mode) run.device.history told.legal).serial;

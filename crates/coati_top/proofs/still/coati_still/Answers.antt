@@ -1,5 +1,6 @@
 use Rattle.std.proofs.Common.{◌≡◌, map, string_bytes, Some, sym, ◌∙◌}
-use Rattle.coati_top.specs.Call.{input_edge, output_edge}
+use Rattle.coati_io.specs.Writing.{output_edge}
+use Rattle.coati_top.specs.Call.{input_edge}
 use Rattle.coati_top.specs.Words.{command_of}
 use Rattle.coati_top.proofs.Completing.{HasOneAnswer, completes_ended}
 use Rattle.coati_top.proofs.still.coati_still.Goals as goal
@@ -18,5 +19,10 @@ returns-in-Some-clause-complete g c =
       rule = c.refused_is_not_accepted.ensures;
       script = c.each_text_has_one_answer.ensures.script;
       traced = c.each_text_has_one_answer.ensures.apart;
+      formed = c.spelled_programs_are_well_formed.ensures;
+      printed = c.each_text_says_one_thing.ensures.printed;
+      misprinted = c.each_text_says_one_thing.ensures.apart;
+      verdict = c.verdicts_are_unique.ensures;
+      legal = c.serial_texts_are_legal.ensures;
     } in
     rw is (completes_ended one c.in-Some.command c.run.result.status input output c.run.result.board c.run.ensures.ended)

@@ -1,5 +1,6 @@
 use Rattle.std.proofs.Common.{◌≡◌, ◌∙◌, true, false, sym}
-use Rattle.coati_top.specs.Call.{input_edge, output_edge}
+use Rattle.coati_io.specs.Writing.{output_edge}
+use Rattle.coati_top.specs.Call.{input_edge}
 use Rattle.coati_top.specs.Words.{reads}
 use Rattle.coati_top.proofs.Explaining.{ended_answer, ended_too_large, read_nothing, read_whole}
 use Rattle.coati_top.proofs.still.run.Goals as goal

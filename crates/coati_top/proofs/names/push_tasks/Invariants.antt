@@ -1,9 +1,0 @@
-use Rattle.std.proofs.Common.{◌≡◌, ◌++◌, drop, map}
-use Rattle.coati_top.specs.Labels.{label_text}
-use Rattle.coati_top.specs.Names.{name_of_task}
-use Rattle.coati_top.proofs.names.push_tasks.Given as goal
-
-abbrev pub invariant-loop-task : goal.invariant-loop-task
-invariant-loop-task l =
-    map label_text l.labels.items ++ map name_of_task (drop l.task-index l.tasks)
-    ≡ map label_text l.initial.labels.items ++ map name_of_task l.tasks

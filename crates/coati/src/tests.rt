@@ -1,7 +1,9 @@
 mod conflicts;
 mod generated;
 mod listings;
+mod loads;
 mod postings;
+mod printed;
 mod rules;
 mod runs;
 mod traces;
@@ -19,7 +21,8 @@ use task_parse::parse;
 const COUNTING: &str =
     "nv n = 0; task main { n = n + 1; if n < 3 { next main; } else { halt; } }\n%%\n";
 
-const USAGE: &str = "usage: coati check | dump | run MODE | live MODE | replay MODE | gen N\n";
+const USAGE: &str =
+    "usage: coati check | dump | run MODE | live MODE | replay MODE | gen N | load MODE N\n";
 
 /// An end of a call: the most bytes that it moves at once, and the calls that fail.
 #[derive(Clone, Copy)]
@@ -66,13 +69,15 @@ fn accepted(rt: &impl Abort, alloc: Global, source: &[u8]) -> Result<Checked, Fa
 
 #[test]
 fn other_words_are_answered_with_the_usage(rt: HostRuntime) -> Result<(), Fail> {
-    let table: [&[&str]; 6] = [
+    let table: [&[&str]; 8] = [
         &[],
         &["run"],
         &["check", "x"],
         &["run", "both"],
         &["run", "split", "now"],
         &["walk", "split"],
+        &["replay"],
+        &["replay", "both"],
     ];
     for words in table {
         let answer = call(rt.alloc(), words, b"", AMPLE, AMPLE)?;

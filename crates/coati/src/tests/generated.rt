@@ -1,6 +1,10 @@
-use super::{AMPLE, Edge, USAGE, call};
-use coati_top::Status;
+use super::{AMPLE, Edge, USAGE, accepted, call};
+use coati_gen::generate;
+use coati_top::{Status, second_part, source_part};
+use std::alloc::Global;
+use std::process::Abort;
 use std::test::Fail;
+use trace_text::read_trace;
 
 const NO_ROUND: &str = "nv s[16];
 nv w;
@@ -48,15 +52,41 @@ fn lines_with(text: &[u8], front: &[u8]) -> usize {
         .count()
 }
 
+/// A run of the input in a mode answers each of its 40 postings, and leaves nothing to do.
+fn runs_to_its_end(rt: &impl Abort, alloc: Global, mode: &str, input: &[u8]) -> Result<(), Fail> {
+    let run = call(alloc, &["run", mode], input, AMPLE, AMPLE)?;
+    assert_eq!(rt; run.0, Status::Ok, "{mode}");
+    for (front, count) in [("post ", 40), ("end idle", 1), ("var left 0", 1)] {
+        let found = lines_with(&run.1, front.as_bytes());
+        assert_eq!(rt; found, count, "{front} in {mode}");
+    }
+    Ok(())
+}
+
 #[test]
 fn a_realistic_input_is_run(rt: HostRuntime) -> Result<(), Fail> {
     let alloc = rt.alloc();
     let given = call(alloc, &["gen", "40"], b"", AMPLE, AMPLE)?;
     assert_eq!(rt; given.0, Status::Ok);
-    let run = call(alloc, &["run", "split"], &given.1, AMPLE, AMPLE)?;
-    assert_eq!(rt; run.0, Status::Ok);
-    for (front, count) in [("post ", 40), ("end idle", 1), ("var left 0", 1)] {
-        assert_eq!(rt; lines_with(&run.1, front.as_bytes()), count, "{front}");
+    runs_to_its_end(&rt, alloc, "split", &given.1)?;
+    runs_to_its_end(&rt, alloc, "buffi", &given.1)
+}
+
+/// The input of so many rounds is a source with a trace of as many postings.
+fn is_source_with_trace(rt: &impl Abort, alloc: Global, rounds: u16) -> Result<(), Fail> {
+    let input = generate(alloc, rounds)?;
+    let checked = accepted(rt, alloc, source_part(&input))?;
+    let trace = second_part(&input);
+    assert!(rt; trace.len() <= 262_144);
+    let script = read_trace(alloc, &checked, trace)?;
+    assert_eq!(rt; script.postings.as_slice().len(), usize::from(rounds));
+    Ok(())
+}
+
+#[test]
+fn each_generated_input_is_a_source_with_a_trace(rt: HostRuntime) -> Result<(), Fail> {
+    for rounds in 0..201 {
+        is_source_with_trace(&rt, rt.alloc(), rounds)?;
     }
     Ok(())
 }

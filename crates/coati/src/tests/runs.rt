@@ -1,3 +1,4 @@
+use super::verdicts::is_judged;
 use super::{AMPLE, call};
 use coati_top::Status;
 use std::alloc::Global;
@@ -51,8 +52,8 @@ pub(super) fn run(
     run_in(rt, alloc, "split", source, trace)
 }
 
-/// A run of the source in a mode writes these lines by this trace; those of both are separated by
-/// ` / `.
+/// A run of the source in a mode writes these lines by this trace, and they are serial; those of
+/// both are separated by ` / `.
 pub(super) fn expect_in(
     rt: &impl Abort,
     alloc: Global,
@@ -65,7 +66,7 @@ pub(super) fn expect_in(
     let wanted = format!(in alloc; "{text}\n")?;
     let written = run_in(rt, alloc, mode, source, trace)?;
     assert_eq!(rt; written.as_str(), wanted.as_str(), "{source} by {trace}");
-    Ok(())
+    is_judged(rt, alloc, source, mode, lines, "serial")
 }
 
 /// In mode `split`.

@@ -1,5 +1,5 @@
 -- A step of the machine in the bottom half of a handler, and the write that accepts its posting.
-use Rattle.std.proofs.Common.{◌≡◌, ◌≢◌, ℕ, ◌+◌, ◌==◌, List, length, true, false, refl, sym, ap, subst, ◌∙◌, arith}
+use Rattle.std.proofs.Common.{◌≡◌, ◌≢◌, Bool, ℕ, ◌+◌, ◌==◌, List, length, true, false, refl, sym, ap, subst, ◌∙◌, arith}
 use Rattle.std.proofs.lemmas.Bool.Decides.{nat_tests}
 use Rattle.event_buffer.specs.TurnLaws.{accept_change}
 use Rattle.nv_memory.specs.Seats.{Memory}
@@ -13,13 +13,13 @@ use Rattle.word_cpu.specs.Meaning.{Meaning, Shows}
 use Rattle.word_cpu.specs.Turning.{IsStep}
 use Rattle.word_cpu.proofs.Shown.{shown_step}
 use Rattle.coati_device.specs.declared.device.Device.{Device}
-use Rattle.coati_device.specs.declared.hand.Hand.{Hand}
 use Rattle.coati_device.specs.declared.hand.Hand.TheVariants.{Accept, Over}
 use Rattle.coati_device.specs.HandlerView.{handler_view}
-use Rattle.coati_device.specs.Raises.{IsHandStep, after_bottom, is_last_part, waits_held}
+use Rattle.coati_device.specs.Raises.{IsHandStep, is_last_part, waits_held}
 use Rattle.coati_device.specs.Raises.IsHandStep.{accepts}
 use Rattle.coati_device.specs.TaskView.{HasWritten}
-use Rattle.coati_device.specs.Waits.{Waits, waits_after, with_made}
+use Rattle.coati_device.specs.Waits.{Waits, begun, waits_after, with_made}
+use Rattle.coati_board.specs.Handlers.{is_end}
 use Rattle.coati_board.specs.declared.handler_view.HandlerView.{HandlerView}
 
 -- what a handler's view of an image means
@@ -43,22 +43,21 @@ view_shows = record {
 }
 
 -- what a step of the bottom half comes to
-abbrev pub HasStepped : Bodies → Cpu → Device → Device → Hand → Type 0
-HasStepped code before old new next =
-    (after : Cpu) × (image : Memory) × (turn : Turn)
+abbrev pub HasStepped : Bodies → Cpu → Cpu → Device → Device → Bool → Type 0
+HasStepped code before after old new ends =
+    (image : Memory) × (turn : Turn)
     × IsStep handler_view code before after old.image image turn
     × (new ≡ record old { image = image; waiting = waits_after old.waiting turn })
-    × (next ≡ after_bottom after turn)
+    × (ends ≡ is_end turn)
 
 -- a step on the view is one of the handler
 pub bottom_stepped : (code : Bodies) (d : Device) (before after : Cpu) (old new : HandlerView)
-    (turn seen : Turn) (waits : Waits) (next : Hand) →
+    (turn seen : Turn) (waits : Waits) (ends : Bool) →
     IsStep view_meaning code before after old new turn → old.image.now ≡ d.image → turn ≡ seen →
-    waits ≡ waits_after d.waiting seen → next ≡ after_bottom after seen →
-    HasStepped code before d (record d { image = new.image.now; waiting = waits }) next
-bottom_stepped code d before after old new turn seen waits next step image_is turn_is waits_is
-    next_is = (
-      after,
+    waits ≡ waits_after d.waiting seen → ends ≡ is_end seen →
+    HasStepped code before after d (record d { image = new.image.now; waiting = waits }) ends
+bottom_stepped code d before after old new turn seen waits ends step image_is turn_is waits_is
+    ends_is = (
       new.image.now,
       seen,
       subst (λ (m : Memory). IsStep handler_view code before after m new.image.now seen) image_is
@@ -67,7 +66,7 @@ bottom_stepped code d before after old new turn seen waits next step image_is tu
           (shown_step view_meaning handler_view (λ (view : HandlerView). view.image.now)
           view_shows before after old new code turn step)),
       rw waits_is refl,
-      next_is,
+      ends_is,
     )
 
 -- the posting is accepted, in either mode
@@ -105,3 +104,9 @@ buffi_by s test = grind (arith, nat_tests)
 
 pub split_by : (s : State) → (mode s == 1) ≡ false → mode s ≢ 1
 split_by s test = λ same. grind (arith, nat_tests)
+
+-- behind the last part the bottom half begins
+pub begun_behind : (d mid : Device) (waits : Waits) (image : Memory) →
+    mid ≡ record d { image = image } → waits ≡ begun mid.waiting →
+    record mid { waiting = waits } ≡ record d { image = image; waiting = begun d.waiting }
+begun_behind d mid waits image same is = rw (is, same) refl

@@ -17,4 +17,5 @@ pub mod Raised
 pub mod FirstLeft
 pub mod HandlerViewing
 pub mod HandlerRunning
+pub mod HandSteps
 pub mod Draining

@@ -201,6 +201,7 @@ pub record Steps (program : Program) (mode : Mode) (script : Script)
   pub steps : new.steps ≡ old.steps + 1
   pub spare : new.spare + 1 ≡ old.spare
   pub grows : AreRecordsGrown old new
+  pub cursors : new.cursors ≡ old.cursors
 
 module _ (program : Program) (mode : Mode) (script : Script) (old new : Device)
     (board : IsBoard program mode script old)
@@ -241,6 +242,7 @@ module _ (program : Program) (mode : Mode) (script : Script) (old new : Device)
         steps = has.steps;
         spare = omega (arith, left, spare);
         grows = has.grows;
+        cursors = leaves.cursors;
       }
 
   -- it is sound, and has no End mark yet

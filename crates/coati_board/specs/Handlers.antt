@@ -1,15 +1,19 @@
 -- What a handler's steps ask of a device.
-use Rattle.std.specs.Prelude.{ℕ, ◌+◌, ◌^◌, ◌<◌, ◌≤◌, ◌≡◌, List, [], ◌∷◌, length, false}
+use Rattle.std.specs.Prelude.{ℕ, ◌+◌, ◌^◌, ◌<◌, ◌≤◌, ◌≡◌, Bool, List, [], ◌∷◌, Option, None, Some, length, false, true}
 use Rattle.codegen.specs.Bodies.{program_code}
-use Rattle.event_buffer.specs.Fill.{is_full}
+use Rattle.event_buffer.specs.Fill.{fill_change, is_full, tail_slot}
 use Rattle.nv_memory.specs.InRange.{InRange}
+use Rattle.nv_memory.specs.Seats.{Memory}
 use Rattle.nv_memory.specs.State.{state}
 use Rattle.task_cost.specs.Limits.{handler_bound}
 use Rattle.task_check.specs.Accepted.{IsAccepted}
 use Rattle.task_syntax.specs.declared.body.BodyId.TheVariants as body
 use Rattle.task_syntax.specs.declared.program.Program.{Program}
+use Rattle.task_syntax.specs.Events.{message_of}
 use Rattle.word_code.specs.Code.{Bodies, HasBody}
 use Rattle.word_cpu.specs.declared.cpu.Cpu.{Cpu}
+use Rattle.word_cpu.specs.declared.turn.Turn.{Turn}
+use Rattle.word_cpu.specs.declared.turn.Turn.TheVariants.{Went, Storing, Ended}
 use Rattle.word_cpu.specs.UnderWay as machine
 use Rattle.coati_device.specs.declared.device.Device.{Device}
 use Rattle.coati_device.specs.declared.hand.Hand.{Hand}
@@ -20,6 +24,7 @@ use Rattle.coati_device.specs.Laws.{Fits, HoldsItsEvents}
 use Rattle.coati_device.specs.Points.{IsTimed}
 use Rattle.coati_device.specs.Raises.{first_hand}
 use Rattle.coati_device.specs.ScratchView.{scratch_view}
+use Rattle.coati_device.specs.TaskView.{HasWritten}
 
 -- the machine can make its next step in a top half
 pub record CanStepOnTop (code : Bodies) (cpu : Cpu) (words : List ℕ) : Type 0 where
@@ -33,6 +38,25 @@ pub record CanFill (code : Bodies) (event : ℕ) (message : List ℕ) (part : �
   pub range : InRange (state d.image)
   pub part_low : part < length message + 2
   pub exists : HasBody code (body.Bottom event)
+
+-- what the top half gives with a step, where it ends
+abbrev pub message_given : Turn → Option (List ℕ)
+message_given (Went reading) = None
+message_given Storing = None
+message_given (Ended ending) = Some (message_of ending)
+
+-- a half ends with a step
+abbrev pub is_end : Turn → Bool
+is_end (Went reading) = false
+is_end Storing = false
+is_end (Ended ending) = true
+
+-- the part of a posting is written
+pub record Fills (event : ℕ) (message : List ℕ) (part : ℕ) (old new : Device) : Type 0 where
+  pub image : Memory
+  pub wrote : HasWritten old.image (fill_change (tail_slot (state old.image)) event message part)
+      image
+  pub same : new ≡ record old { image = image }
 
 -- the machine can make its next step in the bottom half of a handler
 pub record CanStepInBottom (code : Bodies) (cpu : Cpu) (d : Device) : Type 0 where

@@ -21,7 +21,7 @@ ghost use Rattle.coati_device.specs.Points.{HasRoomFor, StandsFor, uncommitted};
 ghost use Rattle.coati_board.specs.Board.{IsBlankImage, IsBoardStep, IsFreshDevice, IsIdleBoard, IsOpen, IsOpened, IsOver, IsRaise, IsRefused, IsRoomier, IsSameRun, end_of, first_left, left_of, terms_of};
 ghost use Rattle.coati_board.specs.Served.{IsScript};
 
-use crate::cursors::{first_cursors, first_left};
+use crate::cursors::{first_cursors, first_place, posting_there};
 use crate::raise::raise;
 use crate::step::advance;
 use coati_device::laws::{devices_are_sound, steps_keep_devices};
@@ -49,15 +49,18 @@ pub struct Board {
     device: Device,
     /// How many steps a body makes at most before the one that ends it.
     most: u32,
+    /// The place of the first posting of the script that is left; the script's end where none is.
+    upcoming: u32,
 }
 
 impl Model for Board {
-    ghost use Rattle.std.specs.Prelude.{◌≡◌};
+    ghost use Rattle.std.specs.Prelude.{◌≡◌, length};
     ghost use Rattle.std.specs.Coded.{codes};
     ghost use Rattle.task_syntax.specs.contracts.statement.Stmt as statement;
     ghost use Rattle.codegen.specs.Bodies.{program_code};
     ghost use Rattle.coati_device.specs.Rows.{steps_before_end};
     ghost use Rattle.coati_board.specs.Board.{IsBoard, Whole};
+    ghost use Rattle.coati_board.specs.Cursors.{first_place};
 
     ghost Value = { Whole };
 
@@ -72,7 +75,8 @@ impl Model for Board {
 
     ghost invariant = { λ b. (b.code ≡ program_code b.checked)
         × (b.most ≡ steps_before_end b.checked)
-        × IsBoard b.checked b.mode b.script b.device };
+        × IsBoard b.checked b.mode b.script b.device
+        × (b.upcoming ≡ first_place b.device.cursors (length b.script.postings)) };
 }
 
 impl Board {
@@ -92,6 +96,7 @@ impl Board {
         devices_are_sound();
         let device = fresh_device(alloc, &checked, mode, &script)?;
         let most = bounds(&checked).c.saturating_sub(2);
+        let upcoming = first_place(&device.cursors, script.postings.as_slice().len() as u32);
         Ok(Board {
             checked,
             code,
@@ -99,6 +104,7 @@ impl Board {
             script,
             device,
             most,
+            upcoming,
         })
     }
 
@@ -159,13 +165,16 @@ impl Board {
             ≡ readings_in self.old.device.history.readings committed }
     {
         raises_keep_devices();
-        raise(
+        let answer = raise(
             &self.checked,
             &self.code,
             &self.script,
             &mut self.device,
             device,
-        )
+        );
+        let end = self.script.postings.as_slice().len() as u32;
+        self.upcoming = first_place(&self.device.cursors, end);
+        answer
     }
 
     /// How many postings a device has left to raise.
@@ -182,7 +191,7 @@ impl Board {
         ensures some { IfSome result (λ posting. (posting.device < 8)
             × (0 < left_of self.now posting.device)) }
     {
-        first_left(self.script.postings.as_slice(), &self.device.cursors)
+        posting_there(self.script.postings.as_slice(), self.upcoming)
     }
 
     /// Ends the run with an End mark. No memory is taken.

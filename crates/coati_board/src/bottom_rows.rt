@@ -18,6 +18,7 @@ ghost use Rattle.coati_board.specs.Ready.{HasRoomToEnd, RunsTheBottomHalf};
 
 use crate::bottom_view::BottomView;
 use crate::commit::commit_posting;
+use crate::phases::{choose_next, end_bottom_next, run_next};
 use crate::writes::put;
 use bottom_half::Job;
 use coati_device::{Device, Phase};
@@ -59,7 +60,7 @@ fn start(checked: &Checked, code: &Code, most: u32, device: &mut Device, job: Jo
 {
     device.attempt.clear();
     let cpu = Cpu::start(code, BodyId::Bottom(job.event), message(checked, &job));
-    device.phase = Phase::Run(cpu, most);
+    run_next(&mut device.phase, cpu, most);
 }
 
 // The message of a posting: the first words of its entry, as many as its event has parameters.
@@ -92,7 +93,7 @@ pub fn run_bottom_half(code: &Code, device: &mut Device)
         Turn::Went(Some(reading)) => device.attempt.push(reading),
         Turn::Went(None) => {}
         Turn::Storing => {}
-        Turn::Ended(_ending) => device.phase = Phase::EndBottom,
+        Turn::Ended(_ending) => end_bottom_next(&mut device.phase),
     }
 }
 
@@ -133,5 +134,5 @@ fn commit_event(device: &mut Device)
         device.clock + 1,
     );
     device.attempt.clear();
-    device.phase = Phase::Choose;
+    choose_next(&mut device.phase);
 }

@@ -71,21 +71,15 @@ pub fn posting_at(postings: &[Posting], place: u32) -> Posting
     postings[place as usize]
 }
 
-/// The first posting that is left to raise.
-pub fn first_left(postings: &[Posting], cursors: &[Cursor; 8]) -> Option<Posting>
-    requires { length postings.now ≤ 4096 }
-    ensures { result ≡ slice_get postings.now (first_place cursors.now (length postings.now)) }
+/// The posting at a place of the script; none behind its end.
+pub fn posting_there(postings: &[Posting], place: u32) -> Option<Posting>
+    ensures { result ≡ slice_get postings.now place }
 {
-    let place = first_place(cursors, postings.len() as u32);
-    if (place as usize) < postings.len() {
-        Some(posting_at(postings, place))
-    } else {
-        None
-    }
+    postings.get(place as usize).copied()
 }
 
-// The least place of a posting that is left; the script's end where none is.
-fn first_place(cursors: &[Cursor; 8], end: u32) -> u32
+/// The least place of a posting that is left; the script's end where none is.
+pub fn first_place(cursors: &[Cursor; 8], end: u32) -> u32
     ensures { result ≡ first_place cursors.now end }
 {
     let mut least = end;

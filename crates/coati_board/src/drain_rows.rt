@@ -16,10 +16,11 @@ ghost use Rattle.coati_device.specs.TaskView.{IsAfter};
 ghost use Rattle.coati_board.specs.Ready.{HasRoomToDrain, HasRoomToEnd};
 
 use crate::commit::commit_posting;
+use crate::phases::choose_next;
 use crate::units::unit_of;
 use crate::writes::put;
 use buffi_sets::{conflict, doom_write};
-use coati_device::{Device, Phase};
+use coati_device::Device;
 use commit_log::{Marker, mark_write, prepare_event};
 use event_buffer::held;
 use nv_memory::Image;
@@ -54,8 +55,9 @@ fn abort(checked: &Checked, device: &mut Device, attempt: bool, word: u16)
     requires few { held_count (state device.old.image) ≤ device.old.accepted }
     ensures { (code : Bodies) → IsRow checked.now code device.old device.new }
 {
+    let task = device.image.current();
     let aborted = AbortOf {
-        unit: unit_of(checked, device.image.current()),
+        unit: unit_of(checked.tx_of_task(task), task),
         tasks: tasks_given_up(device, attempt),
         posting: oldest_posting(device),
         word,
@@ -68,7 +70,7 @@ fn abort(checked: &Checked, device: &mut Device, attempt: bool, word: u16)
     device.unit.clear();
     device.finished = 0;
     device.attempt.clear();
-    device.phase = Phase::Choose;
+    choose_next(&mut device.phase);
 }
 
 // How many tasks of the unit had run.

@@ -2,9 +2,11 @@
 //! the posting is accepted. In mode `buffi` its bottom half runs before that. Each step is one
 //! machine step, behind which the power may be cut.
 
-ghost use Rattle.std.specs.Prelude.{◌≡◌, ◌↔◌, ◌<◌, ◌∷◌, ◌+◌, [], IsTrue, List, ℕ, length};
+ghost use Rattle.std.specs.Prelude.{◌≡◌, ◌↔◌, ◌<◌, ◌∷◌, ◌+◌, [], IsTrue, ℕ, length};
 ghost use Rattle.codegen.specs.Bodies.{program_code};
+ghost use Rattle.nv_memory.specs.InRange.{InRange};
 ghost use Rattle.nv_memory.specs.Seats.{Memory};
+ghost use Rattle.nv_memory.specs.State.{state};
 ghost use Rattle.task_syntax.specs.declared.body.BodyId.TheVariants as body;
 ghost use Rattle.task_syntax.specs.Events.{message_of};
 ghost use Rattle.word_code.specs.Code.{Bodies};
@@ -13,10 +15,10 @@ ghost use Rattle.word_cpu.specs.declared.turn.Turn.{Turn as Step};
 ghost use Rattle.word_cpu.specs.Turning.{IsStep};
 ghost use Rattle.word_cpu.specs.UnderWay.{IsAtStart};
 ghost use Rattle.coati_device.specs.HandlerView.{handler_view};
-ghost use Rattle.coati_device.specs.Raises.{Handles, IsHandStep, after_bottom, after_top, first_hand};
+ghost use Rattle.coati_device.specs.Raises.{Handles, IsHandStep, first_hand};
 ghost use Rattle.coati_device.specs.ScratchView.{scratch_view};
 ghost use Rattle.coati_device.specs.Waits.{waits_after};
-ghost use Rattle.coati_board.specs.Handlers.{CanAccept, CanFill, CanHandStep, CanHandle, CanStepInBottom, CanStepOnTop, IsAtHandler, LeavesTheRest};
+ghost use Rattle.coati_board.specs.Handlers.{CanAccept, CanHandStep, CanHandle, CanStepInBottom, CanStepOnTop, Fills, IsAtHandler, LeavesTheRest, is_end, message_given};
 
 use crate::handler_view::HandlerView;
 use crate::tick::pass;
@@ -77,7 +79,7 @@ fn run(code: &Code, device: &mut Device, event: u16, first: Hand) -> Answer
     accepts_add_the_newest();
     let mut hand = first;
     loop {
-        hand = step(code, device, event, hand);
+        step(code, device, event, &mut hand);
         if is_over(&hand) {
             return Answer::Accepted(device.accepted);
         }
@@ -88,34 +90,53 @@ fn run(code: &Code, device: &mut Device, event: u16, first: Hand) -> Answer
     }
 }
 
-// One machine step of a handler, before its time.
-fn step(code: &Code, device: &mut Device, event: u16, hand: Hand) -> Hand
-    requires { CanHandStep code.now event hand device.old }
-    ensures { IsHandStep code.now event hand device.old result device.new }
+// One machine step of a handler, before its time. A machine and its words stay where they are.
+fn step(code: &Code, device: &mut Device, event: u16, hand: &mut Hand)
+    requires { CanHandStep code.now event hand.old device.old }
+    ensures { IsHandStep code.now event hand.old device.old hand.new device.new }
 {
     match hand {
-        Hand::Top(cpu, words) => top_step(code, cpu, words),
-        Hand::Fill(message, part) => fill(code, device, event, message, part),
-        Hand::Bottom(cpu) => bottom_step(code, device, cpu),
+        Hand::Top(cpu, words) => {
+            if let Some(message) = top_step(code, cpu, words) {
+                begin_filling(hand, message);
+            }
+        }
+        Hand::Fill(message, part) => {
+            let is_buffi = device.image.is_buffi();
+            fill(device, event, message, *part);
+            if *part as usize != message.as_slice().len() + 1 {
+                *part += 1;
+            } else if is_buffi {
+                device.waiting.begin();
+                let cpu = Cpu::start(code, BodyId::Bottom(event), message.as_slice());
+                begin_bottom_half(hand, cpu);
+            } else {
+                come_to_accept(hand);
+            }
+        }
+        Hand::Bottom(cpu) => {
+            if bottom_step(code, device, cpu) {
+                come_to_accept(hand);
+            }
+        }
         Hand::Accept => {
             accept(device);
-            Hand::Over
+            end(hand);
         }
         Hand::Over => unreachable!(),
     }
 }
 
-// A step of the machine in the top half.
-fn top_step(code: &Code, mut cpu: Cpu, mut words: Scratch) -> Hand
-    requires { CanStepOnTop code.now cpu words }
-    ensures { (after : Machine) × (changed : List ℕ) × (turn : Step)
-        × IsStep scratch_view code.now cpu after words changed turn
-        × (result ≡ after_top after changed turn) }
+// A step of the machine in the top half. Where that ends, the words that it gives.
+fn top_step(code: &Code, cpu: &mut Cpu, words: &mut Scratch) -> Option<Message>
+    requires { CanStepOnTop code.now cpu.old words.old }
+    ensures { (turn : Step) × IsStep scratch_view code.now cpu.old cpu.new words.old words.new turn
+        × (result ≡ message_given turn) }
 {
-    match cpu.step(code, &mut words) {
-        Turn::Went(_reading) => Hand::Top(cpu, words),
-        Turn::Storing => Hand::Top(cpu, words),
-        Turn::Ended(ending) => Hand::Fill(message_of(ending), 0),
+    match cpu.step(code, words) {
+        Turn::Went(_reading) => None,
+        Turn::Storing => None,
+        Turn::Ended(ending) => Some(message_of(ending)),
     }
 }
 
@@ -129,34 +150,25 @@ fn message_of(ending: Ending) -> Message
     }
 }
 
-// A part of the posting is written. Behind the last one the posting is accepted; in mode `buffi`
-// its bottom half comes first.
-fn fill(code: &Code, device: &mut Device, event: u16, message: Message, part: u16) -> Hand
-    requires { CanFill code.now event message part device.old }
-    ensures { IsHandStep code.now event (Hand.Fill message part) device.old result device.new }
+// A part of the posting is written.
+fn fill(device: &mut Device, event: u16, message: &Message, part: u16)
+    requires range { InRange (state device.old.image) }
+    requires part { part < length message.now + 2 }
+    ensures { Fills event message.now part device.old device.new }
 {
-    let is_buffi = device.image.is_buffi();
-    let write = fill_write(&device.image, event, &message, part);
+    let write = fill_write(&device.image, event, message, part);
     put(&mut device.image, write);
-    if part as usize != message.as_slice().len() + 1 {
-        return Hand::Fill(message, part + 1);
-    }
-    if !is_buffi {
-        return Hand::Accept;
-    }
-    device.waiting.begin();
-    Hand::Bottom(Cpu::start(code, BodyId::Bottom(event), message.as_slice()))
 }
 
-// A step of the machine in the bottom half.
-fn bottom_step(code: &Code, device: &mut Device, mut cpu: Cpu) -> Hand
-    requires { CanStepInBottom code.now cpu device.old }
-    ensures { (after : Machine) × (image : Memory) × (turn : Step)
-        × IsStep handler_view code.now cpu after device.old.image image turn
+// A step of the machine in the bottom half. Tells whether that ends.
+fn bottom_step(code: &Code, device: &mut Device, cpu: &mut Cpu) -> bool
+    requires { CanStepInBottom code.now cpu.old device.old }
+    ensures { (image : Memory) × (turn : Step)
+        × IsStep handler_view code.now cpu.old cpu.new device.old.image image turn
         × (device.new ≡ record device.old {
           image = image;
           waiting = waits_after device.old.waiting turn;
-        }) × (result ≡ after_bottom after turn) }
+        }) × (result ≡ is_end turn) }
 {
     let mut view = HandlerView {
         image: &mut device.image,
@@ -164,11 +176,11 @@ fn bottom_step(code: &Code, device: &mut Device, mut cpu: Cpu) -> Hand
     match cpu.step(code, &mut view) {
         Turn::Went(Some(reading)) => {
             device.waiting.push(reading);
-            Hand::Bottom(cpu)
+            false
         }
-        Turn::Went(None) => Hand::Bottom(cpu),
-        Turn::Storing => Hand::Bottom(cpu),
-        Turn::Ended(_ending) => Hand::Accept,
+        Turn::Went(None) => false,
+        Turn::Storing => false,
+        Turn::Ended(_ending) => true,
     }
 }
 
@@ -185,6 +197,34 @@ fn accept(device: &mut Device)
     if is_buffi {
         device.waiting.hold();
     }
+}
+
+// The top half has ended with this message.
+fn begin_filling(hand: &mut Hand, message: Message)
+    ensures { hand.new ≡ Hand.Fill message 0 }
+{
+    *hand = Hand::Fill(message, 0);
+}
+
+// The bottom half begins.
+fn begin_bottom_half(hand: &mut Hand, cpu: Cpu)
+    ensures { hand.new ≡ Hand.Bottom cpu }
+{
+    *hand = Hand::Bottom(cpu);
+}
+
+// The write that accepts the posting comes next.
+fn come_to_accept(hand: &mut Hand)
+    ensures { hand.new ≡ Hand.Accept }
+{
+    *hand = Hand::Accept;
+}
+
+// The handler is over.
+fn end(hand: &mut Hand)
+    ensures { hand.new ≡ Hand.Over }
+{
+    *hand = Hand::Over;
 }
 
 // Whether the handler is over.

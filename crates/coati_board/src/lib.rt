@@ -10,6 +10,7 @@ mod cursors;
 mod drain_rows;
 mod handler;
 mod handler_view;
+mod phases;
 mod raise;
 mod rows;
 mod step;

@@ -11,8 +11,9 @@ ghost use Rattle.nv_memory.specs.Words.{current, doomed, mark, mode, next};
 ghost use Rattle.nv_memory.specs.declared.log.Log.TheVariants as log;
 ghost use Rattle.task_syntax.specs.declared.body.BodyId.TheVariants as body;
 ghost use Rattle.task_syntax.specs.declared.program.Program.{Program};
-ghost use Rattle.task_syntax.specs.Units.{halt, is_inside, place_after};
+ghost use Rattle.task_syntax.specs.Units.{halt, is_inside, place_after, transaction_of};
 ghost use Rattle.word_code.specs.Code.{Bodies, HasBody};
+ghost use Rattle.coati_device.specs.Kept.{unit_of};
 ghost use Rattle.coati_device.specs.Laws.{Rows};
 ghost use Rattle.coati_device.specs.Rows.{Chooses, Ends, IsClear, IsRow, steps_before_end};
 ghost use Rattle.coati_board.specs.Ready.{CanAct, ComesToDrain, HasRoomToEnd, Runs, RunsTheTask, UnflagsBy};
@@ -20,8 +21,9 @@ ghost use Rattle.coati_board.specs.Ready.{CanAct, ComesToDrain, HasRoomToEnd, Ru
 use crate::bottom_rows::{choose_event, end_bottom_half, run_bottom_half};
 use crate::commit::commit;
 use crate::drain_rows::drain;
+use crate::phases::{choose_next, end_next, run_next};
 use crate::task_view::TaskView;
-use crate::units::{is_inside, unit_of};
+use crate::units::{is_in, unit_of};
 use crate::writes::put;
 use bottom_half::pick;
 use buffi_sets::{abort_write, unflag_write};
@@ -34,7 +36,7 @@ use commit_log::{Marker, mark_write, next_write, prepare_write};
 use event_buffer::held;
 use nv_memory::{Image, Log, Write};
 use reboot::after_cut;
-use serial_log::{Mark, MarkKind};
+use serial_log::{Mark, MarkKind, Unit};
 use task_buffer::reset_write;
 use task_check::Checked;
 use task_syntax::BodyId;
@@ -64,12 +66,11 @@ fn go_on(checked: &Checked, code: &Code, most: u32, device: &mut Device)
     ensures { Rows checked.now device.old device.new }
 {
     rows_keep_fit();
-    let drains = drains(&device.image);
     match device.phase {
-        Phase::Choose if drains => drain(checked, device, false),
-        Phase::Choose => choose(checked, code, most, device),
         Phase::Run(..) => run(code, device),
-        Phase::End(_) if drains => drain(checked, device, true),
+        Phase::Choose if drains(&device.image) => drain(checked, device, false),
+        Phase::Choose => choose(checked, code, most, device),
+        Phase::End(_) if drains(&device.image) => drain(checked, device, true),
         Phase::End(place) => end(checked, device, place),
         Phase::EndBottom => end_bottom_half(device),
     }
@@ -185,7 +186,8 @@ fn start(code: &Code, most: u32, device: &mut Device, task: u16)
         → IsRow program code.now device.old device.new }
 {
     device.attempt.clear();
-    device.phase = Phase::Run(Cpu::start(code, BodyId::Task(task), &[]), most);
+    let cpu = Cpu::start(code, BodyId::Task(task), &[]);
+    run_next(&mut device.phase, cpu, most);
 }
 
 // One step of the machine.
@@ -225,7 +227,7 @@ fn run_task(code: &Code, device: &mut Device)
         Turn::Went(Some(reading)) => device.attempt.push(reading),
         Turn::Went(None) => {}
         Turn::Storing => {}
-        Turn::Ended(ending) => device.phase = Phase::End(place_after(ending)),
+        Turn::Ended(ending) => end_next(&mut device.phase, place_after(ending)),
     }
 }
 
@@ -239,8 +241,7 @@ fn place_after(ending: Ending) -> u16
     }
 }
 
-// The place behind the task is written where it isn't there yet. Then the task is merged into its
-// transaction where that goes on, and else its unit is committed.
+// The place behind the task is written where it isn't there yet. Then the task is done.
 fn end(checked: &Checked, device: &mut Device, place: u16)
     requires ends { Ends device.old place }
     requires room { HasRoomToEnd device.old }
@@ -248,8 +249,23 @@ fn end(checked: &Checked, device: &mut Device, place: u16)
 {
     match prepare_write(&device.image, place) {
         Some(write) => put(&mut device.image, write),
-        None if is_inside(checked, device.image.current(), place) => join(device, place),
-        None => commit_unit(checked, device, place),
+        None => end_task(checked, device, place),
+    }
+}
+
+// The task is merged into its transaction where that goes on, and else its unit is committed.
+fn end_task(checked: &Checked, device: &mut Device, place: u16)
+    requires ends { Ends device.old place }
+    requires prepared { next (state device.old.image) ≡ place }
+    requires room { HasRoomToEnd device.old }
+    ensures { (code : Bodies) → IsRow checked.now code device.old device.new }
+{
+    let task = device.image.current();
+    let tx = checked.tx_of_task(task);
+    if is_in(checked, tx, place) {
+        join(device, place);
+    } else {
+        commit_unit(device, unit_of(tx, task), place);
     }
 }
 
@@ -272,18 +288,20 @@ fn join(device: &mut Device, place: u16)
     device.unit.push_all(device.attempt.as_slice());
     device.finished += 1;
     device.attempt.clear();
-    device.phase = Phase::Choose;
+    choose_next(&mut device.phase);
 }
 
 // The unit is whole: it is committed, and its record told.
-fn commit_unit(checked: &Checked, device: &mut Device, place: u16)
+fn commit_unit(device: &mut Device, unit: Unit, place: u16)
     requires ends { Ends device.old place }
     requires prepared { next (state device.old.image) ≡ place }
-    requires whole { is_inside checked.now (current (state device.old.image)) place ≡ false }
     requires room { HasRoomToEnd device.old }
-    ensures { (code : Bodies) → IsRow checked.now code device.old device.new }
+    ensures { (program : Program) (code : Bodies)
+        → is_inside program (current (state device.old.image)) place ≡ false
+        → unit ≡ unit_of (transaction_of program (current (state device.old.image)))
+        (current (state device.old.image))
+        → IsRow program code device.old device.new }
 {
-    let unit = unit_of(checked, device.image.current());
     put(&mut device.image, mark_write(Marker::Unit));
     commit(
         &mut device.history,
@@ -296,5 +314,5 @@ fn commit_unit(checked: &Checked, device: &mut Device, place: u16)
     device.unit.clear();
     device.finished = 0;
     device.attempt.clear();
-    device.phase = Phase::Choose;
+    choose_next(&mut device.phase);
 }

@@ -2,7 +2,8 @@ ghost use Rattle.std.specs.Prelude.{◌≡◌, ◌+◌, ◌^◌, ◌<◌};
 ghost use Rattle.coati_device.specs.Ticks.{cut, passed, ticked};
 
 use crate::board::period;
-use coati_device::{Device, Phase};
+use crate::phases::choose_next;
+use coati_device::Device;
 use serial_log::{Mark, MarkKind};
 
 /// A machine step's time. Where its power period is over then, the power is cut and comes back.
@@ -43,7 +44,7 @@ fn cut(periods: &[u32], device: &mut Device)
     device.spare -= 1;
     device.boots += 1;
     device.until = period(periods, device.boots);
-    device.phase = Phase::Choose;
+    choose_next(&mut device.phase);
     device.history.push(Mark {
         at: device.clock,
         kind: MarkKind::Boot(device.boots),

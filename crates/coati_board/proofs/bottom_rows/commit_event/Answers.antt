@@ -35,7 +35,8 @@ put-requires c = (
 
 pub returns : goal.returns
 returns c program code =
-    let d = c.args.device.now in
+    rw c.choose_next.ensures
+    (let d = c.args.device.now in
     let marks : Writes d.image (set_to mark_seat 3) c.mark_write.result =
     record { seat = refl; is = c.mark_write.ensures d.image.n } in
     let few = c.requires.few in
@@ -49,4 +50,4 @@ returns c program code =
     (subst (λ (reads : List Reading). c.commit_posting.new.history ≡ with_event d.history
     c.event-event.result (d.accepted - c.held.result + 1) reads (d.clock + 1))
     c.as_slice.ensures c.commit_posting.ensures)
-    c.clear.ensures
+    c.clear.ensures)

@@ -30,4 +30,5 @@ pub returns-in-Ended : goal.returns-in-Ended
 returns-in-Ended c program =
     runs_bottom_row program c.args.code.now c.args.device.now c.in-Run.cpu c.step.new.self
     c.in-Run.left _ c.step.new.view c.step.result (Ended c.in-Ended._ending) _ _
-    c.step.ensures.step refl c.in-Run.is c.requires.runs c.requires.clear (cc) (cc) refl
+    c.step.ensures.step refl c.in-Run.is c.requires.runs c.requires.clear (cc)
+    c.end_bottom_next.ensures refl

@@ -37,14 +37,14 @@ going c =
     c.args.code.now c.args.event c.args.first
     c.args.device.now c.requires c.loop-hand.hand c.loop-hand.device c.loop-hand.invariant
 
-timely : (c : After-is_over) → HasTime c.args.device.now c.loop-hand.device c.step-hand.new.device
+timely : (c : After-is_over) → HasTime c.args.device.now c.loop-hand.device c.step.new.device
 timely c =
-    has_time c.args.code.now c.args.event c.args.device.now c.loop-hand.hand c.step-hand.result
-    c.loop-hand.device c.step-hand.new.device c.step-hand.ensures
+    has_time c.args.code.now c.args.event c.args.device.now c.loop-hand.hand c.step.new.hand
+    c.loop-hand.device c.step.new.device c.step.ensures
     (going c)
 
-pub step-hand-requires : goal.step-hand-requires
-step-hand-requires c =
+pub step-requires : goal.step-requires
+step-requires c =
     (goes_anywhere (record {
       joins = c.accesses_join_up.ensures;
       courses = c.courses_under_way_go_on.ensures.bodies;
@@ -73,10 +73,10 @@ pub returns-then-is_over-clause-handles : goal.returns-then-is_over-clause-handl
 returns-then-is_over-clause-handles c =
     takes c.loop-hand.hand c.loop-hand.device c.loop-hand.invariant
     (subst (λ (next : Hand). IsHandStep c.args.code.now c.args.event c.loop-hand.hand
-    c.loop-hand.device next c.step-hand.new.device)
-    (c.is_over.ensures.0 c.if-is_over.true) c.step-hand.ensures) refl
+    c.loop-hand.device next c.step.new.device)
+    (c.is_over.ensures.0 c.if-is_over.true) c.step.ensures) refl
 
-not_over : (c : After-is_over) → IsFalse c.is_over.result → c.step-hand.result ≢ Over
+not_over : (c : After-is_over) → IsFalse c.is_over.result → c.step.new.hand ≢ Over
 not_over c false_ is = both c.is_over.result false_ (c.is_over.ensures.1 is)
   where
     both : (b : Bool) → IsFalse b → IsTrue b → ⊥
@@ -93,8 +93,8 @@ returns-then-device-eq1-clause-leaves c =
 
 pub returns-then-device-eq1-clause-handles : goal.returns-then-device-eq1-clause-handles
 returns-then-device-eq1-clause-handles c =
-    loses c.loop-hand.hand c.step-hand.result c.loop-hand.device c.loop-hand.invariant
-    c.step-hand.ensures
+    loses c.loop-hand.hand c.step.new.hand c.loop-hand.device c.loop-hand.invariant
+    c.step.ensures
     (not_over (goal.at.returns-then-device-eq1-clause-handles c).After-is_over c.if-is_over.false)
     (search rules) refl
 
@@ -111,11 +111,11 @@ loop-hand-smaller c =
     let time = timely (goal.at.loop-hand-smaller c).After-is_over in
     let same = time.same in
     let some = time.leaves.spare in
-    let less : c.pass.new.device.spare ≡ c.step-hand.new.device.spare - 1 =
+    let less : c.pass.new.device.spare ≡ c.step.new.device.spare - 1 =
     ap (λ (d : Device). d.spare) c.pass.ensures in
     omega (arith, same, some, less)
 
 pub loop-hand-preserved : goal.loop-hand-preserved
 loop-hand-preserved c =
-    rw c.pass.ensures (goes_on c.loop-hand.invariant c.step-hand.ensures
+    rw c.pass.ensures (goes_on c.loop-hand.invariant c.step.ensures
     (not_over (goal.at.loop-hand-preserved c).After-is_over c.if-is_over.false) (search rules))

@@ -14,8 +14,8 @@ put-requires c = (
 )
 
 pub returns : goal.returns
-returns c code =
+returns c program code whole unit =
     let marks : Writes c.args.device.now.image (set_to mark_seat 2) c.mark_write.result =
     record { seat = refl; is = c.mark_write.ensures c.args.device.now.image.n } in
-    commits c.args.place c.put.new.image c.requires.ends c.requires.prepared c.requires.whole
+    commits c.args.place c.put.new.image c.requires.ends c.requires.prepared whole
     (c.put.ensures (set_to mark_seat 2) marks).written (cc)

@@ -18,5 +18,4 @@ returns-in-Some c code =
     (c.put.ensures next.change next.writes).written) refl
 
 pub returns-in-None : goal.returns-in-None
-returns-in-None c code =
-    c.join.ensures c.args.checked.now code (let is_ = c.is_inside.ensures in cc)
+returns-in-None c code = c.end_task.ensures code

@@ -1,7 +1,7 @@
-use Rattle.std.proofs.Common.{ap, refl}
+use Rattle.std.proofs.Common.{◌∙◌, ap, refl}
 use Rattle.std.specs.Prelude.{Some, None}
 use Rattle.word_cpu.specs.declared.turn.Turn.TheVariants.{Went, Storing, Ended}
-use Rattle.coati_device.specs.declared.device.Phase.TheVariants.{Run}
+use Rattle.coati_device.specs.declared.device.Phase.TheVariants.{End, Run}
 use Rattle.coati_board.proofs.Running.{runs_row}
 use Rattle.coati_board.proofs.rows.run_task.Goals as goal
 
@@ -30,4 +30,5 @@ pub returns-in-Ended : goal.returns-in-Ended
 returns-in-Ended c program =
     runs_row program c.args.code.now c.args.device.now c.in-Run.cpu c.step.new.self
     c.in-Run.left _ c.step.new.view c.step.result (Ended c.in-Ended.ending) _ _
-    c.step.ensures.step refl c.in-Run.is c.requires.runs c.requires.clear (cc) (cc) refl
+    c.step.ensures.step refl c.in-Run.is c.requires.runs c.requires.clear (cc)
+    (c.end_next.ensures ∙ ap End c.place_after.ensures) refl

@@ -7,7 +7,7 @@ use Rattle.coati_board.proofs.rows.start.Goals as goal
 
 pub returns : goal.returns
 returns c program most =
-    starts c.start.result c.requires.chooses (λ e. c.requires.some (cc)) c.requires.empty
+    starts c.start-cpu.result c.requires.chooses (λ e. c.requires.some (cc)) c.requires.empty
     c.requires.unflagged
-    (subst (λ (task : ℕ). IsAtStart (Task task) [] c.start.result) c.requires.task c.start.ensures)
+    (subst (λ (task : ℕ). IsAtStart (Task task) [] c.start-cpu.result) c.requires.task c.start-cpu.ensures)
     (cc)

@@ -44,6 +44,7 @@ invariant_of-self c = (
       c.self.inside.device c.if-is_over.end c.self.invariant.2
       (still_open (goal.at.invariant_of-self c).After-push)
       (legal_end (goal.at.invariant_of-self c).After-push)),
+  c.self.invariant.3,
 )
 
 pub returns-clause-closed : goal.returns-clause-closed

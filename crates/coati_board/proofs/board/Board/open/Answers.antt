@@ -1,5 +1,7 @@
-use Rattle.std.proofs.Common.{◌-◌, ◌∙◌, ap}
+use Rattle.std.proofs.Common.{◌-◌, ◌∙◌, List, ap, length}
+use Rattle.serial_log.specs.declared.script.Posting.{Posting}
 use Rattle.task_cost.specs.declared.limits.Bounds.{Bounds}
+use Rattle.coati_board.specs.Cursors.{first_place}
 use Rattle.coati_board.proofs.Starting.{opened_board}
 use Rattle.coati_board.proofs.board.Board.open.Goals as goal
 
@@ -11,4 +13,7 @@ invariant_of-result c =
       opened_board c.args.checked c.args.mode c.args.script _ made.accepted made.sizes
           c.requires.script made.fresh.fresh
           made.fresh.cursors made.fresh.spare made.fresh.room c.devices_are_sound.ensures.fresh,
+      c.first_place-upcoming.ensures
+          ∙ ap (λ (postings : List Posting). first_place c.in_ok-device.device.cursors (length postings))
+          c.as_slice.ensures,
     )

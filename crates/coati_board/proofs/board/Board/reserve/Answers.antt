@@ -1,4 +1,7 @@
-use Rattle.std.proofs.Common.{ℕ, ◌-◌, List, ap, length, sym}
+use Rattle.std.proofs.Common.{ℕ, ◌-◌, ◌∙◌, List, ap, length, sym}
+use Rattle.coati_device.specs.declared.cursor.Cursor.{Cursor}
+use Rattle.coati_device.specs.declared.device.Device.{Device}
+use Rattle.coati_board.specs.Cursors.{first_place}
 use Rattle.coati_board.proofs.Rooming.{roomier_board}
 use Rattle.coati_board.proofs.board.Board.reserve.Goals as goal
 
@@ -14,4 +17,7 @@ invariant_of-self c =
           (made.enough inside.script.power
           (ap (λ (periods : List ℕ). length periods - inside.device.boots)
           (sym c.as_slice.ensures))),
+      c.self.invariant.3
+          ∙ ap (λ (cursors : List Cursor). first_place cursors (length inside.script.postings))
+          (sym (ap (λ (d : Device). d.cursors) made.same.same)),
     )

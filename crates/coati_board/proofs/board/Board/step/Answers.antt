@@ -1,11 +1,13 @@
 use Rattle.std.proofs.Common.{◌≡◌, ◌+◌, ◌<◌, ◌∙◌, ap, sym, subst, None}
-use Rattle.std.specs.Prelude.{List, ℕ}
+use Rattle.std.specs.Prelude.{List, ℕ, length}
 use mathlib.Core.List.{IsPrefix}
 use Rattle.word_code.specs.Code.{Bodies}
 use Rattle.serial_log.specs.History.{HasRecord, readings_in}
+use Rattle.coati_device.specs.declared.cursor.Cursor.{Cursor}
 use Rattle.coati_device.specs.declared.device.Device.{Device}
 use Rattle.coati_device.specs.Rows.{IsStepOf}
 use Rattle.coati_board.specs.Board.{Whole, end_of}
+use Rattle.coati_board.specs.Cursors.{first_place}
 use Rattle.coati_board.proofs.Stepping.{Steps, step_keeps}
 use Rattle.coati_board.proofs.board.Board.step.Goals as goal
 use Rattle.coati_board.proofs.board.Board.step.Goals.{After-advance}
@@ -36,6 +38,10 @@ invariant_of-self c = (
   c.self.invariant.0,
   c.self.invariant.1,
   (stepped (goal.at.invariant_of-self c).After-advance).board,
+  c.self.invariant.3
+      ∙ ap (λ (cursors : List Cursor). first_place cursors
+      (length c.self.inside.script.postings))
+      (sym (stepped (goal.at.invariant_of-self c).After-advance).cursors),
 )
 
 pub returns-clause-open : goal.returns-clause-open

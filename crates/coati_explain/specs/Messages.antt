@@ -1,5 +1,5 @@
 -- What is told of each fault of a source: its place, its message, and the text that belongs to it.
-use Rattle.std.specs.Prelude.{◌≡◌, ℕ, ◌-◌, ◌==◌, ◌&&◌, ◌||◌, Bool, false, List, [], ◌∷◌, ◌++◌, bytes_eq, codes, drop, is_some, length, min, slice_get, slice_range, take, if◌then◌else◌}
+use Rattle.std.specs.Prelude.{◌≡◌, ℕ, ◌-◌, ◌==◌, ◌&&◌, ◌||◌, Bool, false, List, [], ◌∷◌, ◌++◌, bytes_eq, codes, drop, is_some, length, slice_get, slice_range, take, if◌then◌else◌}
 use Rattle.std.specs.Char.{is_ascii_digit}
 use Rattle.std.specs.List.{list_all, prefix_len}
 use Rattle.std.specs.Option.{option_map_or}
@@ -140,8 +140,7 @@ pub record IsOfTokens (source : List ℕ) (text_of : List Token → List ℕ) (t
   pub read : Tokens source tokens
   pub is : text ≡ text_of tokens
 
--- the text explains this fault of the source; were a rule's place behind the source's end, the end
--- would be told
+-- the text explains this fault of the source
 abbrev pub IsExplained : List ℕ → SourceFault → List ℕ → Type 0
 IsExplained source (fault.Lexical at) text =
     text ≡ explanation source (fault.Lexical at) at (lexical_message at (drop at source))
@@ -152,5 +151,5 @@ IsExplained source (fault.Number at) text =
 IsExplained source (fault.Syntax number) text = IsOfTokens source (syntax_text source number) text
 IsExplained source (fault.Deep number) text = IsOfTokens source (deep_text source number) text
 IsExplained source (fault.Rule rule at) text =
-    text ≡ explanation source (fault.Rule rule at) (min at (length source))
+    text ≡ explanation source (fault.Rule rule at) at
     (rule_message rule (front_word (drop at source))) (front_word (drop at source)) []

@@ -20,6 +20,7 @@ use crate::token_text::{syntax_message, text_before, token_place, token_text};
 use crate::words::{Said, put_words};
 use coati_top::{SourceFault, put, put_number, source_part};
 use coati_word::OutOfMemory;
+use rule_places::laws::broken_rules_begin_tokens;
 use std::alloc::Global;
 use task_check::Rule;
 use task_lex::{Token, lex, tokens_stand_in_their_source};
@@ -34,6 +35,7 @@ pub(crate) fn source_text(
     requires fault { IsSourceFault input.now fault }
     ensures { IfOk result (λ text. IsExplained (source_part input.now) fault text.items) }
 {
+    broken_rules_begin_tokens();
     let source = source_part(input);
     match fault {
         SourceFault::Lexical(at) => lexical_text(alloc, source, at),
@@ -118,6 +120,7 @@ fn tokens_of(alloc: Global, source: &[u8]) -> Result<Vec<Token>, OutOfMemory>
 /// Of a broken rule.
 fn rule_text(alloc: Global, source: &[u8], rule: Rule, at: u32) -> Result<Vec<u8>, OutOfMemory>
     requires small { length source.now ≤ 262144 }
+    requires within { at ≤ length source.now }
     ensures { IfOk result (λ text. IsExplained source.now (SourceFault.Rule rule at) text.items) }
 {
     let word = front_word(text_from(source, at));
@@ -126,8 +129,7 @@ fn rule_text(alloc: Global, source: &[u8], rule: Rule, at: u32) -> Result<Vec<u8
         word,
         before: &[],
     };
-    let place = at.min(source.len() as u32);
-    explanation(alloc, source, SourceFault::Rule(rule, at), place, said)
+    explanation(alloc, source, SourceFault::Rule(rule, at), at, said)
 }
 
 /// A message about a place of the source.

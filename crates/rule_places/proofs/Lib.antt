@@ -1,0 +1,12 @@
+pub mod Bodies
+pub mod Broken
+pub mod Counts
+pub mod Endings
+pub mod Events
+pub mod Folds
+pub mod Lists
+pub mod Loops
+pub mod Names
+pub mod Parts
+pub mod Spelled
+pub mod Transitions

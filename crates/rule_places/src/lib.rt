@@ -1,0 +1,4 @@
+//! That a broken rule is told at a token of its source.
+#![tactic(auto)]
+
+pub mod laws;

@@ -1,0 +1,9 @@
+use Rattle.std.proofs.Common.{◌≡◌, ◌≤◌}
+use Rattle.nv_memory.specs.State.{state}
+use Rattle.commit_log.specs.Left.{unjoined}
+use Rattle.commit_log.specs.Left.{sum_below}
+use Rattle.device_pace.proofs.counts.unjoined_words.Given as goal
+
+abbrev pub invariant-loop-word : goal.invariant-loop-word
+invariant-loop-word l =
+    (l.count ≡ sum_below (unjoined (state l.image)) l.word) × (l.count ≤ l.word)

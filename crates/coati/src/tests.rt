@@ -2,6 +2,7 @@ mod conflicts;
 mod generated;
 mod listings;
 mod loads;
+mod pace;
 mod postings;
 mod printed;
 mod rules;

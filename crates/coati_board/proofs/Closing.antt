@@ -40,6 +40,7 @@ use Rattle.coati_device.specs.Laws.{Fits}
 use Rattle.coati_device.specs.HeldEvents.{EventsFit}
 use Rattle.coati_device.specs.Points.{AreBootsTold, AreHeld, Awaits, IsFit, IsLegalBy, ServesInTurn, TakeTurns, reads_of}
 use Rattle.coati_device.proofs.CursorMoves.{cursors_stay}
+use Rattle.device_pace.specs.Laws.{ClosingKeepsPace}
 use Rattle.coati_board.specs.Board.{IsBoard, end_of, end_of_kind, terms_of}
 
 end_behind : (k : MarkKind) (o more : Option End) (e : End) → end_of_kind k o ≡ None →
@@ -273,12 +274,12 @@ fit_behind_end program d e fit =
     })
 
 -- a board that is closed is sound
-pub closed_board : (program : Program) (mode : Mode) (script : Script) (d : Device) (e : End) →
-    IsBoard program mode script d →
+pub closed_board : ClosingKeepsPace → (program : Program) (mode : Mode) (script : Script)
+    (d : Device) (e : End) → IsBoard program mode script d →
     end_of d.history.marks ≡ None → IsEndLegal (standing_of program d.history.marks) e →
     IsBoard program mode script
     (record d { history = with_mark d.history (record { at = d.clock; kind = kind.End e }) })
-closed_board program mode script d e board none end = record {
+closed_board paces program mode script d e board none end = record {
   accepted = board.accepted;
   sizes = board.sizes;
   scripted = board.scripted;
@@ -301,6 +302,7 @@ closed_board program mode script d e board none end = record {
         told_behind_end (terms_of program mode) d.history d.clock e script.power d.boots
         board.sound.boots;
   };
+  paced = paces (terms_of program mode) e d board.sound.fit board.paced;
   cursors =
       cursors_stay script.postings d.history.marks _ d.cursors
       (raised_stays d.history.marks d.clock e)

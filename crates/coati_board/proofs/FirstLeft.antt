@@ -1,13 +1,13 @@
 -- The first posting of the script that is left: it stands at the least place of a device.
-use Rattle.std.proofs.Common.{◌≡◌, ◌⊎◌, inl, inr, ℕ, suc, ◌<◌, ◌==◌, List, [], ◌∷◌, true, length, drop, drop-cons, min, refl, sym, ap, subst, ◌∙◌, arith, Some, None, Option}
-use Rattle.std.specs.Prelude.{IfSome, slice_get}
+use Rattle.std.proofs.Common.{◌≡◌, ◌⊎◌, inl, inr, ℕ, zero, suc, ◌<◌, ◌≤◌, ◌==◌, List, [], ◌∷◌, true, length, drop, drop-cons, min, refl, sym, ap, subst, ◌∙◌, arith, Some, None, Option}
+use Rattle.std.specs.Prelude.{IfNone, IfSome, slice_get}
 use Rattle.std.proofs.lemmas.Bool.{cases_lt}
-use Rattle.std.proofs.lemmas.Option.{get_or_from_slice_get, slice_get_within}
+use Rattle.std.proofs.lemmas.Option.{get_or_from_slice_get, slice_get-get_or, slice_get_within}
 use Rattle.serial_log.specs.declared.mark.Mark.{Mark}
 use Rattle.serial_log.specs.declared.script.Posting.{Posting}
 use Rattle.coati_device.specs.declared.cursor.Cursor.{Cursor}
 use Rattle.coati_device.specs.Cursors.{AreCursors, HasRaised, count_of, cursor_of, no_posting, others}
-use Rattle.coati_device.proofs.CursorMoves.{first_is_own}
+use Rattle.coati_device.proofs.CursorMoves.{first_is_own, left_within}
 use Rattle.coati_device.proofs.Tests.{same_by_test}
 use Rattle.coati_board.specs.Cursors.{first_place}
 
@@ -90,3 +90,49 @@ some_is_left postings marks cursors same (Some posting) same_is are is =
       subst (λ (all : List Cursor). 0 < (cursor_of all posting.device).left) same_is
           left.some,
     )
+
+place_below_end : (cursors : List Cursor) (end : ℕ) → first_place cursors end ≤ end
+place_below_end [] end = omega arith
+place_below_end (cursor ∷ more) end =
+    let below = place_below_end more (min end cursor.at) in omega (arith, below)
+
+-- the least place is below that of each device
+place_below : (cursors : List Cursor) (end i : ℕ) → i < length cursors →
+    first_place cursors end ≤ (cursor_of cursors i).at
+place_below [] end i within = absurd (omega (arith, within))
+place_below (cursor ∷ more) end zero within =
+    let below = place_below_end more (min end cursor.at) in omega (arith, below)
+place_below (cursor ∷ more) end (suc i) within =
+    place_below more (min end cursor.at) i (omega (arith, within))
+
+-- where there is no such posting no device has one left
+pub none_is_left : (postings : List Posting) (marks : List Mark) (cursors : List Cursor) →
+    AreCursors postings marks cursors →
+    slice_get postings (first_place cursors (length postings)) ≡ None →
+    (device : ℕ) → device < 8 → (cursor_of cursors device).left ≡ 0
+none_is_left postings marks cursors are none device low =
+    elim (cases_lt 0 (cursor_of cursors device).left) [
+      | inl some ↦
+          let has = are.each device low in
+          let count = has.left in
+          let eight = are.eight in
+          let within = left_within postings device (cursor_of cursors device).at
+          (omega (arith, some, count)) in
+          let least = place_below cursors (length postings) device (omega (arith, low, eight)) in
+          absurd (
+          let found = slice_get-get_or postings (first_place cursors (length postings)) no_posting
+          (omega (arith, within, least)) in
+          let both = sym found ∙ none in cc
+          )
+      | inr few ↦ omega (arith, few)
+    ]
+
+-- so is what is answered
+pub none_is_answered : (postings : List Posting) (marks : List Mark) (cursors same : List Cursor)
+    (found : Option Posting) → cursors ≡ same → AreCursors postings marks cursors →
+    found ≡ slice_get postings (first_place cursors (length postings)) →
+    IfNone found ((device : ℕ) → device < 8 → (cursor_of same device).left ≡ 0)
+none_is_answered postings marks cursors same None same_is are is =
+    subst (λ (all : List Cursor). (device : ℕ) → device < 8 → (cursor_of all device).left ≡ 0)
+    same_is (none_is_left postings marks cursors are (sym is))
+none_is_answered postings marks cursors same (Some posting) same_is are is = tt

@@ -1,7 +1,8 @@
 -- A board on which a device has raised its next posting.
-use Rattle.std.proofs.Common.{◌≡◌, ◌≢◌, ◌↔◌, ℕ, ◌+◌, ◌<◌, ◌≤◌, ◌==◌, List, [], ◌∷◌, ◌++◌, Bool, true, false, if◌then◌else◌, length, length-append, drop, refl, sym, ap, ◌∙◌, arith, Option, None}
-use Rattle.std.specs.Prelude.{filter, map}
-use Rattle.std.proofs.lemmas.List.{length-map}
+use Rattle.std.proofs.Common.{◌≡◌, ◌≢◌, ◌↔◌, ℕ, ◌+◌, ◌<◌, ◌≤◌, ◌==◌, List, [], ◌∷◌, ◌++◌, Bool, true, false, if◌then◌else◌, append-nil, get_or-set_same, get_or-set_other, length, length-append, drop, refl, sym, ap, ◌∙◌, arith, Option, None}
+use Rattle.std.specs.Prelude.{filter, map, slice_set}
+use Rattle.std.proofs.lemmas.List.{length-map, map-append}
+use Rattle.std.proofs.lemmas.List.Concat.{flat_map-append}
 use Rattle.std.proofs.lemmas.List.Elements.{All-get_or}
 use Rattle.codegen.specs.Bodies.{program_code}
 use Rattle.coati_word.specs.declared.mode.Mode.{Mode}
@@ -14,7 +15,8 @@ use Rattle.serial_log.specs.declared.posted.Answer.{Answer}
 use Rattle.serial_log.specs.declared.posted.Answer.TheVariants.{Full}
 use Rattle.serial_log.specs.declared.script.Posting.{Posting}
 use Rattle.serial_log.specs.declared.script.Script.{Script}
-use Rattle.serial_log.specs.Marks.{raised_postings}
+use Rattle.serial_log.specs.declared.posted.Posted.{Posted}
+use Rattle.serial_log.specs.Marks.{raised_by, raised_postings}
 use Rattle.serial_log.specs.Scripted.{Sent, of_device, sent_as, sent_by}
 use Rattle.task_cost.specs.Limits.{handler_bound}
 use Rattle.task_syntax.specs.declared.program.Program.{Program}
@@ -23,7 +25,7 @@ use Rattle.coati_device.specs.declared.cursor.Cursor.{Cursor}
 use Rattle.coati_device.specs.declared.device.Device.{Device}
 use Rattle.coati_device.specs.declared.hand.Hand.{Hand}
 use Rattle.coati_device.specs.declared.hand.Hand.TheVariants.{Over}
-use Rattle.coati_device.specs.Cursors.{HasRaised, answered, cursor_of, next_posting, no_posting}
+use Rattle.coati_device.specs.Cursors.{HasRaised, answered, cursor_of, moved, next_posting, no_cursor, no_posting}
 use Rattle.coati_device.specs.Laws.{AreRecordsGrown, RaisesKeepSound}
 use Rattle.coati_device.specs.Raises.{Handles, IsHandStep, Raises, Ran}
 use Rattle.coati_device.specs.Raises.Handles.{loses, takes}
@@ -32,7 +34,9 @@ use Rattle.coati_device.specs.Raises.Raises.{fulls, handles}
 use Rattle.coati_device.specs.Raises.Ran.{begins, goes_on}
 use Rattle.coati_device.specs.Ticks.{cut, passed, ticked}
 use Rattle.coati_device.proofs.CursorMoves.{left_within}
+use Rattle.device_pace.specs.Laws.{RaisesKeepPace}
 use Rattle.coati_board.specs.Board.{IsBoard, IsRefused, end_of, end_of_kind, terms_of}
+use Rattle.coati_board.specs.Postings.{answers_of}
 use Rattle.coati_board.specs.Raising.{CanRaise}
 use Rattle.coati_board.specs.Served.{IsPosting}
 
@@ -122,6 +126,7 @@ pub record Goes (start d : Device) : Type 0 where
   accepted : d.accepted ≤ start.accepted + 1
   finished : d.finished ≡ start.finished
   history : d.history ≡ start.history
+  cursors : d.cursors ≡ start.cursors
 
 pub record GoesOn (start d : Device) : Type 0 where
   goes : Goes start d
@@ -139,6 +144,7 @@ module _ (code : Bodies) (event : ℕ) (start : Device) where
         accepted = goes.accepted;
         finished = goes.finished;
         history = goes.history;
+        cursors = goes.cursors;
       })
   step_goes hand next d mid here (fills_last words part image is last other wrote same to) =
       let goes = here.goes in
@@ -147,6 +153,7 @@ module _ (code : Bodies) (event : ℕ) (start : Device) where
         accepted = goes.accepted;
         finished = goes.finished;
         history = goes.history;
+        cursors = goes.cursors;
       })
   step_goes hand next d mid here
       (begins_bottom words part image cpu is last buffi wrote start same to) =
@@ -156,6 +163,7 @@ module _ (code : Bodies) (event : ℕ) (start : Device) where
         accepted = goes.accepted;
         finished = goes.finished;
         history = goes.history;
+        cursors = goes.cursors;
       })
   step_goes hand next d mid here (bottoms before after image turn is step same to) =
       let goes = here.goes in
@@ -164,6 +172,7 @@ module _ (code : Bodies) (event : ℕ) (start : Device) where
         accepted = goes.accepted;
         finished = goes.finished;
         history = goes.history;
+        cursors = goes.cursors;
       })
   step_goes hand next d mid here (accepts image is wrote same to) =
       let goes = here.goes in
@@ -174,6 +183,7 @@ module _ (code : Bodies) (event : ℕ) (start : Device) where
         finished =
             goes.finished;
         history = goes.history;
+        cursors = goes.cursors;
       })
 
   step_counts_none : (hand next : Hand) (d mid : Device) → IsHandStep code event hand d next mid →
@@ -200,6 +210,7 @@ module _ (code : Bodies) (event : ℕ) (start : Device) where
           finished =
               refl;
           history = refl;
+          cursors = refl;
         };
         same = refl;
       }
@@ -214,6 +225,7 @@ module _ (code : Bodies) (event : ℕ) (start : Device) where
           finished =
               goes.finished;
           history = goes.history;
+          cursors = goes.cursors;
         };
         same = step_counts_none hand next d mid step other ∙ here.same;
       }
@@ -231,8 +243,32 @@ end_stays : (marks : List Mark) (mark : Mark) →
 end_stays [] mark quiet = quiet None
 end_stays (first ∷ more) mark quiet = ap (end_of_kind first.kind) (end_stays more mark quiet)
 
+-- a mark's answer, if it tells one
+abbrev answers_by : Mark → List Answer
+answers_by mark = map (λ (posted : Posted). posted.answer) (raised_by mark.kind)
+
+answers_behind : (marks : List Mark) (mark : Mark) →
+    answers_of (marks ++ mark ∷ []) ≡ answers_of marks ++ answers_by mark
+answers_behind marks mark =
+    let told = map {A = Posted} (λ posted. posted.answer) in
+    ap told (flat_map-append (λ (one : Mark). raised_by one.kind) marks (mark ∷ [])
+    ∙ ap (λ (more : List Posted). raised_postings marks ++ more)
+    (append-nil (raised_by mark.kind)))
+    ∙ map-append (λ (posted : Posted). posted.answer) (raised_postings marks)
+    (raised_by mark.kind)
+
+quiet_answers : (marks : List Mark) (mark : Mark) → answers_by mark ≡ [] →
+    answers_of (marks ++ mark ∷ []) ≡ answers_of marks
+quiet_answers marks mark quiet =
+    answers_behind marks mark ∙ ap (λ (more : List Answer). answers_of marks ++ more) quiet
+    ∙ append-nil (answers_of marks)
+
 -- what a raised posting leaves beside
-pub record Raise (old new : Device) (answer : Answer) : Type 0 where
+pub record Raise (postings : List Posting) (number : ℕ) (old new : Device) (answer : Answer)
+    : Type 0 where
+  pub answers : answers_of new.history.marks ≡ answers_of old.history.marks ++ answer ∷ []
+  pub cursors : new.cursors
+      ≡ slice_set old.cursors number (moved postings number (cursor_of old.cursors number))
   pub full : (answer ≡ Full) ↔ (is_full (state old.image) ≡ true)
   pub refused : answer ≡ Full → IsRefused old new
   pub clock : old.clock ≤ new.clock
@@ -242,6 +278,8 @@ pub record Raise (old new : Device) (answer : Answer) : Type 0 where
 
 -- the time of the deciding step
 record Times (d new : Device) : Type 0 where
+  answers : answers_of new.history.marks ≡ answers_of d.history.marks
+  cursors : new.cursors ≡ d.cursors
   clock : new.clock ≡ d.clock + 1
   accepted : new.accepted ≡ d.accepted
   finished : new.finished ≡ d.finished
@@ -251,19 +289,28 @@ times : (periods : List ℕ) (d : Device) (is_over : Bool) →
     Times d (if is_over then cut periods d else passed d)
 times periods d true =
     record {
+      answers = quiet_answers d.history.marks _ refl;
+      cursors = refl;
       clock = refl;
       accepted = refl;
       finished = refl;
       ends =
           end_stays d.history.marks _ (λ rest. refl);
     }
-times periods d false = record { clock = refl; accepted = refl; finished = refl; ends = refl }
+times periods d false = record {
+  answers = refl;
+  cursors = refl;
+  clock = refl;
+  accepted = refl;
+  finished = refl;
+  ends = refl;
+}
 
 raised_by_handler : (program : Program) (periods : List ℕ) (postings : List Posting) (number : ℕ)
     (old mid new : Device) (answer : Answer) →
     is_full (state old.image) ≡ false → answer ≢ Full → Goes old mid →
     new ≡ ticked periods (answered postings number (next_posting postings old number) old.clock
-    (mid.clock + 1) answer mid) → Raise old new answer
+    (mid.clock + 1) answer mid) → Raise postings number old new answer
 raised_by_handler program periods postings number old mid new answer room other goes is =
     let told = answered postings number (next_posting postings old number) old.clock
     (mid.clock + 1) answer mid in
@@ -273,6 +320,13 @@ raised_by_handler program periods postings number old mid new answer room other 
     let later = goes.clock in
     let few = goes.accepted in
     rw is (record {
+      answers =
+          time.answers ∙ answers_behind mid.history.marks _
+          ∙ ap (λ (past : Past). answers_of past.marks ++ answer ∷ []) goes.history;
+      cursors =
+          time.cursors
+          ∙ ap (λ (cursors : List Cursor). slice_set cursors number
+          (moved postings number (cursor_of cursors number))) goes.cursors;
       full = (λ e. absurd (other e), λ e. absurd (let both : true ≡ false = sym e ∙ room in cc));
       refused = λ e. absurd (other e);
       clock = omega (arith, clock_, later);
@@ -285,9 +339,14 @@ raised_by_handler program periods postings number old mid new answer room other 
 
 pub raised_leaves : (program : Program) (code : Bodies) (periods : List ℕ)
     (postings : List Posting) (number : ℕ) (old new : Device) (answer : Answer) →
-    Raises program code periods postings number old new answer → Raise old new answer
+    Raises program code periods postings number old new answer →
+    Raise postings number old new answer
 raised_leaves program code periods postings number old new answer (fulls full answers is) =
     rw is (record {
+      answers =
+          answers_behind old.history.marks _
+          ∙ ap (λ (one : Answer). answers_of old.history.marks ++ one ∷ []) (sym answers);
+      cursors = refl;
       full = (λ e. full, λ e. answers);
       refused = λ e. record {
         image = refl;
@@ -306,22 +365,47 @@ raised_leaves program code periods postings number old new answer
     raised_by_handler program periods postings number old mid new answer room goes.0 goes.1 is
 
 -- what a board has then
-pub record RaisesOn (program : Program) (mode : Mode) (script : Script) (old new : Device)
-    (answer : Answer) : Type 0 where
+pub record RaisesOn (program : Program) (mode : Mode) (script : Script) (number : ℕ)
+    (old new : Device) (answer : Answer) : Type 0 where
   pub board : IsBoard program mode script new
-  pub leaves : Raise old new answer
+  pub leaves : Raise script.postings number old new answer
   pub steps : new.steps ≡ old.steps
   pub spare : old.spare ≤ new.spare + handler_bound program
   pub grows : AreRecordsGrown old new
+  pub left : (cursor_of new.cursors number).left + 1 ≡ (cursor_of old.cursors number).left
+  pub others : (other : ℕ) → other ≢ number →
+      cursor_of new.cursors other ≡ cursor_of old.cursors other
+
+-- a device has one posting less left, and no other has
+module _ (postings : List Posting) (number : ℕ) (old new : Device) (answer : Answer)
+    (leaves : Raise postings number old new answer) where
+  abbrev own : Cursor
+  own = cursor_of old.cursors number
+
+  one_left_less : number < length old.cursors → 0 < own.left →
+      (cursor_of new.cursors number).left + 1 ≡ own.left
+  one_left_less within some =
+      let found =
+      ap (λ (cursors : List Cursor). (cursor_of cursors number).left) leaves.cursors
+      ∙ ap (λ (c : Cursor). c.left) (get_or-set_same old.cursors number
+      (moved postings number own) no_cursor within) in
+      omega (arith, found, some)
+
+  others_stay : (other : ℕ) → other ≢ number →
+      cursor_of new.cursors other ≡ cursor_of old.cursors other
+  others_stay other apart =
+      ap (λ (cursors : List Cursor). cursor_of cursors other) leaves.cursors
+      ∙ get_or-set_other old.cursors number other (moved postings number own) no_cursor apart
 
 pub raise_keeps : (program : Program) (mode : Mode) (script : Script) (number : ℕ)
     (old new : Device) (answer : Answer) →
     IsBoard program mode script old → number < 8 → 0 < (cursor_of old.cursors number).left →
     handler_bound program ≤ old.spare →
-    end_of old.history.marks ≡ None → RaisesKeepSound →
+    end_of old.history.marks ≡ None → RaisesKeepSound → RaisesKeepPace →
     Raises program (program_code program) script.power script.postings number old new answer →
-    RaisesOn program mode script old new answer
-raise_keeps program mode script number old new answer board low left spare open_ law raised =
+    RaisesOn program mode script number old new answer
+raise_keeps program mode script number old new answer board low left spare open_ law paces
+    raised =
     let same : handler_bound program ≤ handler_bound program = omega arith in
     let has =
     law (terms_of program mode) script.power script.postings number old new answer
@@ -341,12 +425,15 @@ raise_keeps program mode script number old new answer board low left spare open_
     let old_limit = board.limit in
     let old_time = board.time in
     let few = has.room.few in
+    let eight = board.cursors.eight in
     record {
       board = record {
         accepted = board.accepted;
         sizes = board.sizes;
         scripted = board.scripted;
         sound = has.sound;
+        paced = paces (terms_of program mode) script.power script.postings number old new answer
+            has.sound.fit board.paced raised;
         cursors = has.cursors;
         steps = omega (arith, clock, steps, old_steps);
         counted = omega (arith, clock, counted, old_counted);
@@ -360,4 +447,7 @@ raise_keeps program mode script number old new answer board low left spare open_
       steps = has.steps;
       spare = has.spare;
       grows = has.grows;
+      left = one_left_less script.postings number old new answer leaves
+          (omega (arith, low, eight)) left;
+      others = others_stay script.postings number old new answer leaves;
     }

@@ -16,6 +16,9 @@ use Rattle.coati_device.specs.HeldEvents.{EventsFit}
 use Rattle.coati_device.specs.Points.{HasRoomFor, IsFit, IsSound, Reads, TakeTurns, uncommitted}
 use Rattle.coati_device.specs.Waits.{Waits, waiting_count}
 use Rattle.serial_log.specs.Standing.{standing_of}
+use Rattle.coati_pace.specs.Effort.{shape_of}
+use Rattle.coati_pace.specs.Running.{KeepsPace}
+use Rattle.device_pace.specs.Effort.{effort_of}
 use Rattle.coati_board.specs.Board.{IsBoard, IsRoomier, terms_of}
 
 module _ (terms : Terms) (periods : List ℕ) (d : Device) (past : Past) (attempt unit : Kept)
@@ -105,6 +108,9 @@ roomier_parts program mode script d past attempt unit waiting spare marks readin
       sound =
           sound_with_room (terms_of program mode) script.power d past attempt unit waiting spare
           marks readings items kept events board.sound;
+      paced =
+          subst (λ (ms : List Mark). KeepsPace program (shape_of program) mode
+          (record { effort = effort_of d; clock = d.clock; marks = ms })) (sym marks) board.paced;
       cursors = subst (λ (ms : List Mark). AreCursors script.postings ms d.cursors) (sym marks)
           board.cursors;
       steps = board.steps;

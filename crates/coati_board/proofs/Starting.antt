@@ -12,6 +12,7 @@ use Rattle.coati_device.specs.declared.device.Device.{Device}
 use Rattle.coati_device.specs.Cursors.{AreCursors, HasRaised, cursor_of, first_cursor}
 use Rattle.coati_device.specs.Laws.{FreshDevicesAreSound, IsFresh}
 use Rattle.coati_device.specs.Waits.{count_all}
+use Rattle.device_pace.specs.Laws.{FreshDevicesArePaced}
 use Rattle.coati_device.proofs.CursorMoves.{counts_all, none_skipped, skipped_few, skips_none}
 use Rattle.coati_board.specs.Board.{IsBoard, terms_of}
 use Rattle.coati_board.specs.Cursors.{first_cursors}
@@ -53,8 +54,8 @@ pub opened_board : (program : Program) (mode : Mode) (script : Script) (d : Devi
     IsAccepted program → HasSizes program → IsScript program script →
     IsFresh program mode script.power d → d.cursors ≡ first_cursors script.postings → d.spare ≡ 0 →
     length script.power + 1 ≤ d.history.mark_room → FreshDevicesAreSound →
-    IsBoard program mode script d
-opened_board program mode script d accepted sizes scripted fresh cursors no_spare enough law =
+    FreshDevicesArePaced → IsBoard program mode script d
+opened_board program mode script d accepted sizes scripted fresh cursors no_spare enough law paces =
     let clock = fresh.clock in
     let steps = fresh.steps in
     let boots = fresh.boots in
@@ -69,6 +70,7 @@ opened_board program mode script d accepted sizes scripted fresh cursors no_spar
       sizes = sizes;
       scripted = scripted;
       sound = law (terms_of program mode) script.power d scripted.periods sizes fresh;
+      paced = paces (terms_of program mode) script.power d scripted.periods sizes fresh;
       cursors =
           subst (AreCursors script.postings d.history.marks) (sym cursors)
           (subst (λ (marks : List Mark). AreCursors script.postings marks

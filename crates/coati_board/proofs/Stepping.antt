@@ -14,6 +14,8 @@ use Rattle.nv_memory.specs.Seats.{Memory}
 use Rattle.word_code.specs.Code.{Bodies}
 use Rattle.coati_device.specs.declared.device.Device.{Device}
 use Rattle.coati_device.specs.Laws.{AreRecordsGrown, HasStepped, StepsKeepSound}
+use Rattle.device_pace.specs.Laws.{StepsKeepPace}
+use Rattle.device_pace.specs.Running.{IsPaced}
 use Rattle.coati_device.specs.Points.{HasRoomFor}
 use Rattle.coati_device.specs.declared.device.Phase.{Phase}
 use Rattle.coati_device.specs.declared.device.Phase.TheVariants.{Run}
@@ -202,14 +204,16 @@ pub record Steps (program : Program) (mode : Mode) (script : Script)
   pub spare : new.spare + 1 ≡ old.spare
   pub grows : AreRecordsGrown old new
   pub cursors : new.cursors ≡ old.cursors
+  pub raised : raised_postings new.history.marks ≡ raised_postings old.history.marks
 
 module _ (program : Program) (mode : Mode) (script : Script) (old new : Device)
     (board : IsBoard program mode script old)
     (spare : 0 < old.spare) (limit : old.steps < script.limit)
     (open_ : end_of old.history.marks ≡ None) where
   stepped : HasStepped (terms_of program mode) script.power (old.spare - 1) old new →
-      LeavesBeside old new → Steps program mode script old new
-  stepped has leaves =
+      IsPaced (terms_of program mode) new → LeavesBeside old new →
+      Steps program mode script old new
+  stepped has paced leaves =
       let clock = has.clock in
       let steps = has.steps in
       let left = has.spare in
@@ -225,6 +229,7 @@ module _ (program : Program) (mode : Mode) (script : Script) (old new : Device)
           sizes = board.sizes;
           scripted = board.scripted;
           sound = has.sound;
+          paced = paced;
           cursors =
               subst (AreCursors script.postings new.history.marks) (sym leaves.cursors)
               (cursors_stay script.postings old.history.marks new.history.marks old.cursors
@@ -243,15 +248,19 @@ module _ (program : Program) (mode : Mode) (script : Script) (old new : Device)
         spare = omega (arith, left, spare);
         grows = has.grows;
         cursors = leaves.cursors;
+        raised = leaves.told.raised;
       }
 
   -- it is sound, and has no End mark yet
-  pub step_keeps : StepsKeepSound → IsStepOf program (program_code program) script.power old new →
+  pub step_keeps : StepsKeepSound → StepsKeepPace →
+      IsStepOf program (program_code program) script.power old new →
       Steps program mode script old new
-  step_keeps law step =
+  step_keeps law paces step =
       let enough : suc (old.spare - 1) ≡ old.spare = omega arith in
       stepped
       (law (terms_of program mode) script.power (old.spare - 1) old new board.scripted.periods
       board.accepted board.sound
       (subst (λ (n : ℕ). HasRoomFor n script.power old) (sym enough) (board.room open_)) step)
+      (paces (terms_of program mode) script.power old new board.accepted board.sizes board.sound
+      board.paced step)
       (step_leaves program (program_code program) script.power old new step)

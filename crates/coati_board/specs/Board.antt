@@ -1,5 +1,5 @@
 -- A board as its callers see it: the program, the mode, the script, and the device.
-use Rattle.std.specs.Prelude.{ℕ, ◌+◌, ◌^◌, ◌<◌, ◌≤◌, ◌≡◌, List, [], ◌∷◌, length, slice_get, Option, Some, None}
+use Rattle.std.specs.Prelude.{ℕ, ◌+◌, ◌*◌, ◌^◌, ◌<◌, ◌≤◌, ◌≡◌, List, [], ◌∷◌, length, slice_get, Option, Some, None}
 use Rattle.coati_word.specs.declared.mode.Mode.{Mode}
 use Rattle.codegen.specs.Bodies.{program_code}
 use Rattle.nv_memory.specs.Blank.{blank}
@@ -26,6 +26,7 @@ use Rattle.coati_device.specs.Laws.{IsFresh}
 use Rattle.coati_device.specs.Points.{HasRoomFor, IsSound, uncommitted}
 use Rattle.coati_device.specs.Raises.{Raises}
 use Rattle.coati_device.specs.Rows.{IsStepOf}
+use Rattle.device_pace.specs.Running.{IsPaced}
 use Rattle.coati_board.specs.Cursors.{first_cursors, first_place}
 use Rattle.coati_board.specs.Served.{IsScript}
 
@@ -64,6 +65,12 @@ pub record IsOpened (program : Program) (mode : Mode) (script : Script)
   pub script_is : board.script ≡ script
   pub fresh : IsFresh program mode script.power board.device
   pub cursors : board.device.cursors ≡ first_cursors script.postings
+
+-- a board before its first step, with room for its steps and its handlers
+pub record CanBeRun (board : Whole) : Type 0 where
+  pub opened : IsOpened board.program board.mode board.script board
+  pub room : board.script.limit + handler_bound board.program * length board.script.postings
+      ≤ board.device.spare
 
 -- a device before its first step, with room for all boots and for the End mark
 pub record IsFreshDevice (program : Program) (mode : Mode) (script : Script) (d : Device)
@@ -124,6 +131,7 @@ pub record IsBoard (program : Program) (mode : Mode) (script : Script) (d : Devi
   pub sizes : HasSizes program
   pub scripted : IsScript program script
   pub sound : IsSound (terms_of program mode) (program_code program) script.power d
+  pub paced : IsPaced (terms_of program mode) d
   pub cursors : AreCursors script.postings d.history.marks d.cursors
   pub steps : d.steps ≤ d.clock
   pub counted : d.accepted ≤ d.clock

@@ -5,3 +5,4 @@ pub mod Cursors
 pub mod Handlers
 pub mod Raising
 pub mod Board
+pub mod Postings

@@ -1,4 +1,4 @@
-ghost use Rattle.std.specs.Prelude.{◌≡◌, ◌+◌, ◌≤◌, ◌<◌, ◌^◌, ◌⊎◌, ◌↔◌, IfOk, IfSome, IsTrue, true, OnErr, OnOk, None, Some, ◌-◌, ℕ, List, length, slice_index};
+ghost use Rattle.std.specs.Prelude.{◌≡◌, ◌+◌, ◌≤◌, ◌<◌, ◌^◌, ◌⊎◌, ◌↔◌, IfNone, IfOk, IfSome, IsTrue, true, OnErr, OnOk, None, Some, ◌-◌, ℕ, List, length, slice_index};
 ghost use mathlib.Core.List.{IsPrefix};
 ghost use Rattle.codegen.specs.Bodies.{program_code};
 ghost use Rattle.nv_memory.specs.Ring.{held_count};
@@ -8,18 +8,24 @@ ghost use Rattle.nv_memory.specs.State.{state};
 ghost use Rattle.serial_log.specs.declared.record.Record.{Record};
 ghost use Rattle.serial_log.specs.History.{HasRecord, readings_in, with_mark};
 ghost use Rattle.serial_log.specs.Legal.{IsLegalHistory};
-ghost use Rattle.serial_log.specs.Progresses.{ServesAborts, ServesAtOnce, ServesBetweenUnits};
+ghost use Rattle.serial_log.specs.Progresses.{EndsTasksInTime, ServesAborts};
+ghost use Rattle.serial_log.specs.Progresses.{ServesAtOnce, ServesBetweenUnits};
 ghost use Rattle.serial_log.specs.Scripted.{AreBootsAtPeriods};
 ghost use Rattle.serial_log.specs.SerialRun.{stand_of};
 ghost use Rattle.serial_log.specs.Standing.{standing_of};
 ghost use Rattle.task_check.specs.Accepted.{IsAccepted};
 ghost use Rattle.event_buffer.specs.Fill.{is_full};
-ghost use Rattle.task_cost.specs.Limits.{handler_bound};
+ghost use Rattle.task_cost.specs.Limits.{handler_bound, period_bound};
 ghost use Rattle.task_check.specs.Sizes.{HasSizes};
 ghost use Rattle.task_syntax.specs.Names.{opening_values, word_count};
 ghost use Rattle.coati_device.specs.Points.{HasRoomFor, StandsFor, uncommitted};
 ghost use Rattle.coati_board.specs.Board.{IsBlankImage, IsBoardStep, IsFreshDevice, IsIdleBoard, IsOpen, IsOpened, IsOver, IsRaise, IsRefused, IsRoomier, IsSameRun, end_of, first_left, left_of, terms_of};
+ghost use Rattle.coati_board.specs.Postings.{ArePostingsInOrder, HasNoneLeft};
+ghost use Rattle.coati_board.specs.Postings.{RaisesNext, RaisesNone};
 ghost use Rattle.coati_board.specs.Served.{IsScript};
+ghost use Rattle.coati_pace.specs.Effort.{shape_of};
+ghost use Rattle.coati_pace.specs.Need.{need};
+ghost use Rattle.device_pace.specs.Effort.{effort_of};
 
 use crate::cursors::{first_cursors, first_place, posting_there};
 use crate::raise::raise;
@@ -30,6 +36,8 @@ use coati_device::{Device, Phase, Readings, Waiting};
 use coati_word::limits::HALT;
 use coati_word::{Mode, OutOfMemory};
 use commit_log::committed;
+use device_pace::laws::{paced_devices_end_tasks, raises_keep_pace, steps_keep_pace};
+use device_pace::need;
 use event_buffer::held;
 use nv_memory::Image;
 use serial_log::{Answer, End, History, Mark, MarkKind, Posting, Script};
@@ -94,6 +102,7 @@ impl Board {
         ensures { IfOk result (IsOpened checked mode script) }
     {
         devices_are_sound();
+        paced_devices_end_tasks();
         let device = fresh_device(alloc, &checked, mode, &script)?;
         let most = bounds(&checked).c.saturating_sub(2);
         let upcoming = first_place(&device.cursors, script.postings.as_slice().len() as u32);
@@ -132,11 +141,13 @@ impl Board {
         ensures steps { self.new.device.steps ≡ self.old.device.steps + 1 }
         ensures spare { self.new.device.spare + 1 ≡ self.old.device.spare }
         ensures grows { IsPrefix self.old.device.history.marks self.new.device.history.marks }
+        ensures raises { RaisesNone self.old self.new }
         ensures kept { (committed : Record) → HasRecord self.old.device.history committed
             → readings_in self.new.device.history.readings committed
             ≡ readings_in self.old.device.history.readings committed }
     {
         steps_keep_devices();
+        steps_keep_pace();
         advance(
             &self.checked,
             &self.code,
@@ -153,6 +164,7 @@ impl Board {
         requires spare { handler_bound self.old.program ≤ self.old.device.spare }
         requires open { IsOpen self.old }
         ensures raise { IsRaise self.old device self.new result }
+        ensures next { RaisesNext self.old device self.new result }
         ensures open { IsOpen self.new }
         ensures full { (result ≡ Answer.Full) ↔ (is_full (state self.old.device.image) ≡ true) }
         ensures refused { result ≡ Answer.Full → IsRefused self.old.device self.new.device }
@@ -165,6 +177,7 @@ impl Board {
             ≡ readings_in self.old.device.history.readings committed }
     {
         raises_keep_devices();
+        raises_keep_pace();
         let answer = raise(
             &self.checked,
             &self.code,
@@ -190,6 +203,7 @@ impl Board {
         ensures first { result ≡ first_left self.now }
         ensures some { IfSome result (λ posting. (posting.device < 8)
             × (0 < left_of self.now posting.device)) }
+        ensures none { IfNone result (HasNoneLeft self.now) }
     {
         posting_there(self.script.postings.as_slice(), self.upcoming)
     }
@@ -207,6 +221,7 @@ impl Board {
           };
         } }
     {
+        raises_keep_pace();
         let end = if self.is_over() {
             End::Idle
         } else {
@@ -221,7 +236,8 @@ impl Board {
 
     /// Whether nothing is left to do, and no posting is left to raise.
     pub fn is_over(&self) -> bool
-        ensures { IsTrue result ↔ IsOver self.now }
+        ensures over { IsTrue result ↔ IsOver self.now }
+        ensures none { IsTrue result → HasNoneLeft self.now }
     {
         self.is_idle() && self.first_left().is_none()
     }
@@ -279,7 +295,9 @@ impl Board {
 
     /// The history: it is legal, memory stands for where it leads, its boots are at the ends of
     /// the power periods, and events are served between units, or in mode `buffi` at once. Behind
-    /// an abort its event comes first.
+    /// an abort its event comes first. Where a run is left alone for a power period that suffices,
+    /// a task ends in it, or nothing is left to do behind it. Each device has raised its postings
+    /// in their order, each once.
     pub fn history(&self) -> &History
         ensures history { result.now ≡ self.now.device.history }
         ensures legal { IsLegalHistory (terms_of self.now.program self.now.mode)
@@ -293,9 +311,26 @@ impl Board {
         ensures buffi { self.now.mode ≡ Mode.Buffi →
             ServesAtOnce self.now.program self.now.device.history.marks }
         ensures aborts { ServesAborts self.now.device.history.marks }
+        ensures progress { EndsTasksInTime self.now.program (period_bound self.now.program)
+            self.now.device.clock self.now.device.history.marks }
+        ensures order { ArePostingsInOrder self.now }
     {
         devices_are_sound();
+        paced_devices_end_tasks();
         &self.device.history
+    }
+
+    /// So many steps suffice until the next task ends or nothing is left to do, where no posting
+    /// is raised and no power is cut: at most a power period that suffices, and none exactly where
+    /// nothing is left to do.
+    pub fn need(&self) -> u32
+        ensures value { result ≡ need (shape_of self.now.program) self.now.mode
+            (effort_of self.now.device) }
+        ensures most { result ≤ period_bound self.now.program }
+        ensures idle { (result ≡ 0) ↔ IsIdleBoard self.now }
+    {
+        paced_devices_end_tasks();
+        need(&self.checked, self.mode, &self.device)
     }
 
     /// The program.

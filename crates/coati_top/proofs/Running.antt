@@ -11,8 +11,8 @@ use Rattle.task_cost.specs.Limits.{handler_bound}
 use Rattle.task_syntax.specs.declared.program.Program.{Program}
 use Rattle.coati_device.specs.declared.device.Device.{Device}
 use Rattle.coati_device.specs.Laws.{IsFresh}
-use Rattle.coati_board.specs.Board.{IsOpened, IsRoomier, IsSameRun, Whole}
-use Rattle.executor.specs.Run.{CanRun, HasMadeAllSteps, HasRun}
+use Rattle.coati_board.specs.Board.{CanBeRun, IsOpened, IsRoomier, IsSameRun, Whole}
+use Rattle.executor.specs.Run.{HasMadeAllSteps, HasRun}
 use Rattle.coati_top.specs.Runs.{HasRaisedAll, IsClosedBy, IsEndedBy}
 
 -- a device with more room is still before its first step
@@ -49,7 +49,7 @@ opened_with_room program mode script old new opened same roomier = record {
 
 -- with room for its run it can run
 pub can_run : (program : Program) (mode : Mode) (script : Script) (board : Whole) → IsOpened program mode script board
-    → script.limit + handler_bound program * length script.postings ≤ board.device.spare → CanRun board
+    → script.limit + handler_bound program * length script.postings ≤ board.device.spare → CanBeRun board
 can_run program mode script board opened room = record {
   opened = record {
     program_is = refl;

@@ -8,10 +8,11 @@ use Rattle.serial_log.specs.declared.end.End.TheVariants.{Idle, Limit}
 use Rattle.serial_log.specs.declared.mark.Mark.{Mark}
 use Rattle.serial_log.specs.declared.mark.MarkKind.TheVariants as kind
 use Rattle.serial_log.specs.Legal.{IsLegalHistory}
-use Rattle.serial_log.specs.Progresses.{ServesAborts, ServesAtOnce, ServesBetweenUnits}
+use Rattle.serial_log.specs.Progresses.{EndsTasksInTime, ServesAborts, ServesAtOnce, ServesBetweenUnits}
 use Rattle.serial_log.specs.Scripted.{AreBootsAtPeriods}
 use Rattle.serial_log.specs.SerialRun.{SerialRun}
 use Rattle.serial_log.specs.Standing.{standing_of}
+use Rattle.task_cost.specs.Limits.{period_bound}
 use Rattle.coati_device.specs.Points.{StandsFor}
 use Rattle.coati_board.specs.Board.{IsOpened, Whole, end_of, terms_of}
 use Rattle.executor.specs.InTurn.{ArePostingsInTurn, turns_of}
@@ -36,8 +37,9 @@ pub record IsClosedBy (end : End) (run : Whole) : Type 0 where
 -- The board of a run in a mode: it was opened for its program and its script, ran to its end, and
 -- was ended there, within the limit, with one End mark, the last. Each posting was raised in its
 -- turn. The history is legal, and so a serial run of the program; memory stands for where the
--- history leads, what is held with it; the boots are at the ends of the power periods; and events
--- were served between units.
+-- history leads, what is held with it; the boots are at the ends of the power periods; events were
+-- served between units; and where it was left alone for a power period that suffices, a task ended
+-- in it, or nothing was left to do behind it.
 pub record IsRun (mode : Mode) (run : Whole) : Type 0 where
   pub mode_is : run.mode ≡ mode
   pub start : Whole
@@ -57,3 +59,5 @@ pub record IsRun (mode : Mode) (run : Whole) : Type 0 where
   pub split : mode ≡ Split → ServesBetweenUnits run.program run.device.history.marks
   pub buffi : mode ≡ Buffi → ServesAtOnce run.program run.device.history.marks
   pub aborts : ServesAborts run.device.history.marks
+  pub progress : EndsTasksInTime run.program (period_bound run.program) run.device.clock
+      run.device.history.marks

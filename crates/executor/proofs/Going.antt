@@ -6,11 +6,11 @@ use Rattle.serial_log.specs.declared.script.Posting.{Posting}
 use Rattle.serial_log.specs.declared.script.Script.{Script}
 use Rattle.task_cost.specs.Limits.{handler_bound}
 use Rattle.task_syntax.specs.declared.program.Program.{Program}
-use Rattle.coati_board.specs.Board.{IsBoardStep, IsOpen, IsOver, IsRaise, IsSameRun, Whole, end_of}
+use Rattle.coati_board.specs.Board.{CanBeRun, IsBoardStep, IsOpen, IsOver, IsRaise, IsSameRun, Whole, end_of}
 use Rattle.coati_board.specs.Served.{IsScript}
 use Rattle.coati_device.specs.Cursors.{posting_at}
 use Rattle.executor.specs.InTurn.{ArePostingsInTurn, IsFirstToCome, Turns, all_left, turns_of}
-use Rattle.executor.specs.Run.{CanRun, Goes, HasMadeAllSteps, HasNoneDue, IsDue, closed}
+use Rattle.executor.specs.Run.{Goes, HasMadeAllSteps, HasNoneDue, IsDue, closed}
 use Rattle.executor.specs.Run.Goes.{begins, raises, steps}
 use Rattle.executor.proofs.Moves.{RaisesOne, raise_raises_one, step_raises_none}
 use Rattle.executor.proofs.Places.{AreOfDevices}
@@ -60,7 +60,7 @@ room_for_next bound all raised within =
     let every = ap (λ (n : ℕ). bound * n) fewer in
     omega (arith, every)
 
-pub going_at_first : (board : Whole) → CanRun board → IsScript board.program board.script
+pub going_at_first : (board : Whole) → CanBeRun board → IsScript board.program board.script
     → IsGoing board board
 going_at_first board can script =
     let count = can.opened.fresh.steps in

@@ -1,6 +1,6 @@
 -- A scripted run. Before each step the first posting that is left is raised, where its time has
 -- come. The run ends where nothing is left to do and no posting is left, or at the limit of steps.
-use Rattle.std.specs.Prelude.{◌+◌, ◌*◌, ◌<◌, ◌≤◌, ◌≡◌, ◌↔◌, ◌⊎◌, length, Some}
+use Rattle.std.specs.Prelude.{◌<◌, ◌≤◌, ◌≡◌, ◌↔◌, ◌⊎◌, Some}
 use Rattle.serial_log.specs.declared.end.End.{End}
 use Rattle.serial_log.specs.declared.end.End.TheVariants.{Idle}
 use Rattle.serial_log.specs.declared.mark.Mark.{Mark}
@@ -8,9 +8,8 @@ use Rattle.serial_log.specs.declared.mark.MarkKind.TheVariants as kind
 use Rattle.serial_log.specs.declared.posted.Answer.{Answer}
 use Rattle.serial_log.specs.declared.script.Posting.{Posting}
 use Rattle.serial_log.specs.History.{with_mark}
-use Rattle.task_cost.specs.Limits.{handler_bound}
 use Rattle.executor.specs.InTurn.{IsFirstToCome, turns_of}
-use Rattle.coati_board.specs.Board.{IsBoardStep, IsOpen, IsOpened, IsOver, IsRaise, Whole, first_left, left_of}
+use Rattle.coati_board.specs.Board.{IsBoardStep, IsOpen, IsOver, IsRaise, Whole, first_left, left_of}
 
 -- the first posting that is left has come to its time
 pub record IsDue (board : Whole) (posting : Posting) : Type 0 where
@@ -54,12 +53,6 @@ pub record HasRun (start : Whole) (end : End) (board : Whole) : Type 0 where
   pub still_open : IsOpen last
   pub idle : (end ≡ Idle) ↔ IsOver last
   pub closed : board ≡ closed last end
-
--- a board before its first step, with room for its steps and its handlers
-pub record CanRun (board : Whole) : Type 0 where
-  pub opened : IsOpened board.program board.mode board.script board
-  pub room : board.script.limit + handler_bound board.program * length board.script.postings
-      ≤ board.device.spare
 
 -- it made all its steps, and the first posting that is left, if there is one, is still to come
 pub record HasMadeAllSteps (board : Whole) : Type 0 where

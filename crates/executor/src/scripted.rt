@@ -1,7 +1,7 @@
 ghost use Rattle.std.specs.Prelude.{◌≡◌, [], IfNone, IfSome, Some};
-ghost use Rattle.coati_board.specs.Board.{IsSameRun, end_of};
+ghost use Rattle.coati_board.specs.Board.{CanBeRun, IsSameRun, end_of};
 ghost use Rattle.executor.specs.InTurn.{ArePostingsInTurn, turns_of};
-ghost use Rattle.executor.specs.Run.{CanBeRaised, CanRun, HasMadeAllSteps, HasNoneDue, HasRun, IsDue};
+ghost use Rattle.executor.specs.Run.{CanBeRaised, HasMadeAllSteps, HasNoneDue, HasRun, IsDue};
 
 use coati_board::Board;
 use serial_log::{End, Posting};
@@ -10,7 +10,7 @@ use serial_log::{End, Posting};
 /// that is left is raised, where its time has come. The run ends where nothing is left to do and
 /// no posting is left, or at the limit. It takes no memory.
 pub fn run_scripted(board: &mut Board) -> End
-    requires fresh { CanRun board.old }
+    requires fresh { CanBeRun board.old }
     ensures run { IsSameRun board.old board.new }
     ensures exact { HasRun board.old result board.new }
     ensures turns { ArePostingsInTurn board.old.script.postings board.new.device.history.marks }

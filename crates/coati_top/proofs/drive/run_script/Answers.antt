@@ -53,4 +53,5 @@ returns-clause-run c =
       split = λ is. told.split (mode ∙ is);
       buffi = λ is. told.buffi (mode ∙ is);
       aborts = told.aborts;
+      progress = told.progress;
     }

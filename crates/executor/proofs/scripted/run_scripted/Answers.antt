@@ -63,7 +63,7 @@ returns-then-is_over-clause-limit c limited =
     let low = going.steps in
     let all : last.device.steps ≡ last.script.limit = elim c.then-is_over.branch [
       | then-is_over-via-then-is_over w ↦
-          absurd (let over = c.is_over.ensures.0 w.if-is_over.true in
+          absurd (let over = c.is_over.ensures.over.0 w.if-is_over.true in
           let idle : c.close.result ≡ Idle = c.close.ensures.idle.1 over in cc)
       | then-is_over-via-else-is_over+then-executor_steps-limit w ↦
           let count = w.executor_steps.ensures.steps in
@@ -78,7 +78,7 @@ stepped c =
     record {
       none_due = c.in_default.ensures.none;
       not_over =
-          λ over. (let yes = c.is_over.ensures.1 over in let no = c.if-is_over.false in cc);
+          λ over. (let yes = c.is_over.ensures.over.1 over in let no = c.if-is_over.false in cc);
       below =
           let count = c.executor_steps.ensures.steps in
           omega (arith, c.if-executor_steps-limit.false, count, c.limit.ensures);

@@ -23,7 +23,7 @@ legal_end c = elim c.if-is_over.branch [
   | then-is_over w ↦
       let idle : IsIdle (state c.self.inside.device.image) =
       subst (λ (d : Device). IsIdle (state d.image)) (sym (device_is c))
-      (c.is_over.ensures.0 w.if-is_over.true).idle in
+      (c.is_over.ensures.over.0 w.if-is_over.true).idle in
       subst (IsEndLegal (standing_of c.self.inside.checked c.self.inside.device.history.marks))
       (sym w.end-is)
       (done_where_idle c.self.inside.checked c.self.inside.device c.self.invariant.2.sizes
@@ -40,7 +40,7 @@ invariant_of-self c = (
   subst (λ (past : Past). IsBoard c.self.inside.checked c.self.inside.mode c.self.inside.script
       (record c.self.inside.device { history = past }))
       (sym c.push.ensures)
-      (closed_board c.self.inside.checked c.self.inside.mode c.self.inside.script
+      (closed_board c.raises_keep_pace.ensures.closing c.self.inside.checked c.self.inside.mode c.self.inside.script
       c.self.inside.device c.if-is_over.end c.self.invariant.2
       (still_open (goal.at.invariant_of-self c).After-push)
       (legal_end (goal.at.invariant_of-self c).After-push)),

@@ -3,7 +3,7 @@ use Rattle.std.specs.Prelude.{List, ℕ, length, slice_get}
 use Rattle.serial_log.specs.declared.script.Posting.{Posting}
 use Rattle.coati_board.specs.Board.{Whole, first_left}
 use Rattle.coati_board.specs.Cursors.{first_place}
-use Rattle.coati_board.proofs.FirstLeft.{some_is_left}
+use Rattle.coati_board.proofs.FirstLeft.{none_is_answered, some_is_left}
 use Rattle.coati_board.proofs.board.Board.first_left.Goals as goal
 use Rattle.coati_board.proofs.board.Board.first_left.Goals.{After-posting_there}
 
@@ -27,3 +27,11 @@ returns-clause-some c =
     c.args.self.now.device.cursors c.posting_there.result
     (ap (λ (w : Whole). w.device.cursors) c.self.view_is) c.self.invariant.2.cursors
     (there (goal.at.returns-clause-some c).After-posting_there)
+
+pub returns-clause-none : goal.returns-clause-none
+returns-clause-none c =
+    let inside = c.self.inside in
+    none_is_answered inside.script.postings inside.device.history.marks inside.device.cursors
+    c.args.self.now.device.cursors c.posting_there.result
+    (ap (λ (w : Whole). w.device.cursors) c.self.view_is) c.self.invariant.2.cursors
+    (there (goal.at.returns-clause-none c).After-posting_there)

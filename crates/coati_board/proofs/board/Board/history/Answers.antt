@@ -1,8 +1,10 @@
 use Rattle.std.proofs.Common.{◌≡◌, subst}
 use Rattle.coati_word.specs.declared.mode.Mode.TheVariants.{Buffi, Split}
-use Rattle.serial_log.specs.Progresses.{ServesAborts, ServesAtOnce, ServesBetweenUnits}
+use Rattle.serial_log.specs.Progresses.{EndsTasksInTime, ServesAborts, ServesAtOnce, ServesBetweenUnits}
 use Rattle.serial_log.specs.Scripted.{AreBootsAtPeriods}
+use Rattle.task_cost.specs.Limits.{period_bound}
 use Rattle.coati_board.specs.Board.{Whole, terms_of}
+use Rattle.coati_board.specs.Postings.{ArePostingsInOrder}
 use Rattle.coati_device.specs.Laws.{IsToldWell}
 use Rattle.coati_board.proofs.board.Board.history.Goals as goal
 use Rattle.coati_board.proofs.board.Board.history.Goals.{After-self}
@@ -36,3 +38,15 @@ pub returns-clause-aborts : goal.returns-clause-aborts
 returns-clause-aborts c =
     subst (λ (w : Whole). ServesAborts w.device.history.marks)
     c.self.view_is (told (goal.at.returns-clause-aborts c).After-self).aborts
+
+pub returns-clause-progress : goal.returns-clause-progress
+returns-clause-progress c =
+    let inside = c.self.inside in
+    subst (λ (w : Whole). EndsTasksInTime w.program (period_bound w.program) w.device.clock
+    w.device.history.marks) c.self.view_is
+    (c.paced_devices_end_tasks.ensures.ends (terms_of inside.checked inside.mode) inside.device
+    c.self.invariant.2.paced)
+
+pub returns-clause-order : goal.returns-clause-order
+returns-clause-order c =
+    subst ArePostingsInOrder c.self.view_is c.self.invariant.2.cursors

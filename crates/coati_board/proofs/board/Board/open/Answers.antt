@@ -12,7 +12,8 @@ invariant_of-result c =
       c.saturating_sub-most.ensures ∙ ap (λ (of : Bounds). of.c - 2) c.bounds.ensures,
       opened_board c.args.checked c.args.mode c.args.script _ made.accepted made.sizes
           c.requires.script made.fresh.fresh
-          made.fresh.cursors made.fresh.spare made.fresh.room c.devices_are_sound.ensures.fresh,
+          made.fresh.cursors made.fresh.spare made.fresh.room c.devices_are_sound.ensures.fresh
+          c.paced_devices_end_tasks.ensures.fresh,
       c.first_place-upcoming.ensures
           ∙ ap (λ (postings : List Posting). first_place c.in_ok-device.device.cursors (length postings))
           c.as_slice.ensures,

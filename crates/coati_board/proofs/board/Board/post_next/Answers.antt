@@ -12,6 +12,8 @@ use Rattle.coati_device.specs.declared.device.Device.{Device}
 use Rattle.coati_device.specs.Cursors.{cursor_of}
 use Rattle.coati_device.specs.Raises.{Raises}
 use Rattle.coati_board.specs.Board.{IsRaise, IsRefused, Whole, end_of}
+use Rattle.coati_device.specs.declared.cursor.Cursor.{Cursor}
+use Rattle.coati_board.specs.Postings.{RaisesNext}
 use Rattle.coati_board.specs.Cursors.{first_place}
 use Rattle.coati_board.proofs.Raised.{RaisesOn, can_raise, raise_keeps}
 use Rattle.coati_board.proofs.board.Board.post_next.Goals as goal
@@ -46,8 +48,8 @@ raises c =
 -- the fields are those of a board on which a device may raise its next posting, and then of one on
 -- which it has
 raised : (c : After-raise-answer) →
-    RaisesOn c.self.inside.checked c.self.inside.mode c.self.inside.script c.self.inside.device
-    c.raise-answer.new.device c.raise-answer.result
+    RaisesOn c.self.inside.checked c.self.inside.mode c.self.inside.script c.args.device
+    c.self.inside.device c.raise-answer.new.device c.raise-answer.result
 raised c =
     let inside = c.self.inside in
     raise_keeps inside.checked inside.mode inside.script c.args.device inside.device
@@ -58,7 +60,7 @@ raised c =
     (subst (λ (w : Whole). handler_bound w.program ≤ w.device.spare) (sym c.self.view_is)
     c.requires.spare)
     (ap (λ (d : Device). end_of d.history.marks) (device_is c) ∙ c.requires.open)
-    c.raises_keep_devices.ensures (raises c)
+    c.raises_keep_devices.ensures c.raises_keep_pace.ensures.raises (raises c)
 
 pub invariant_of-self : goal.invariant_of-self
 invariant_of-self c = (
@@ -129,3 +131,20 @@ returns-clause-kept c committed has =
     d.history.readings committed) same
     ((raised c).grows.kept committed
     (subst (λ (d : Device). HasRecord d.history committed) (sym same) has))
+
+pub returns-clause-next : goal.returns-clause-next
+returns-clause-next c =
+    let c = (goal.at.returns-clause-next c).After-raise-answer in
+    let inside = c.self.inside in
+    let new : Whole = record {
+      program = inside.checked;
+      mode = inside.mode;
+      script = inside.script;
+      device = c.raise-answer.new.device;
+    } in
+    subst (λ (w : Whole). RaisesNext w c.args.device new c.raise-answer.result) c.self.view_is
+    (record {
+      answers = (raised c).leaves.answers;
+      left = (raised c).left;
+      others = λ other apart. ap (λ (cursor : Cursor). cursor.left) ((raised c).others other apart);
+    })

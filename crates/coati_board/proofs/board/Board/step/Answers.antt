@@ -1,5 +1,5 @@
 use Rattle.std.proofs.Common.{◌≡◌, ◌+◌, ◌<◌, ◌∙◌, ap, sym, subst, None}
-use Rattle.std.specs.Prelude.{List, ℕ, length}
+use Rattle.std.specs.Prelude.{List, ℕ, length, map}
 use mathlib.Core.List.{IsPrefix}
 use Rattle.word_code.specs.Code.{Bodies}
 use Rattle.serial_log.specs.History.{HasRecord, readings_in}
@@ -7,6 +7,9 @@ use Rattle.coati_device.specs.declared.cursor.Cursor.{Cursor}
 use Rattle.coati_device.specs.declared.device.Device.{Device}
 use Rattle.coati_device.specs.Rows.{IsStepOf}
 use Rattle.coati_board.specs.Board.{Whole, end_of}
+use Rattle.serial_log.specs.declared.posted.Posted.{Posted}
+use Rattle.coati_device.specs.Cursors.{cursor_of}
+use Rattle.coati_board.specs.Postings.{RaisesNone}
 use Rattle.coati_board.specs.Cursors.{first_place}
 use Rattle.coati_board.proofs.Stepping.{Steps, step_keeps}
 use Rattle.coati_board.proofs.board.Board.step.Goals as goal
@@ -28,6 +31,7 @@ stepped c =
     ap (λ (d : Device). end_of d.history.marks) (device_is c) ∙ c.requires.open in
     step_keeps inside.checked inside.mode inside.script inside.device c.advance.new.device
     c.self.invariant.2 spare limit open_ c.steps_keep_devices.ensures
+    c.steps_keep_pace.ensures
     (subst (λ (code : Bodies). IsStepOf inside.checked code inside.script.power inside.device
     c.advance.new.device) c.self.invariant.0
     (subst (λ (periods : List ℕ). IsStepOf inside.checked inside.code periods inside.device
@@ -77,3 +81,19 @@ returns-clause-kept c committed has =
     d.history.readings committed) same
     ((stepped c).grows.kept committed
     (subst (λ (d : Device). HasRecord d.history committed) (sym same) has))
+
+pub returns-clause-raises : goal.returns-clause-raises
+returns-clause-raises c =
+    let c = (goal.at.returns-clause-raises c).After-advance in
+    let new : Whole = record {
+      program = c.self.inside.checked;
+      mode = c.self.inside.mode;
+      script = c.self.inside.script;
+      device = c.advance.new.device;
+    } in
+    subst (λ (w : Whole). RaisesNone w new) c.self.view_is
+    (record {
+      answers = ap (λ (all : List Posted). map (λ (posted : Posted). posted.answer) all)
+          (stepped c).raised;
+      left = λ device. ap (λ (all : List Cursor). (cursor_of all device).left) (stepped c).cursors;
+    })

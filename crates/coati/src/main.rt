@@ -2,8 +2,9 @@
 #![tactic(auto)]
 
 use coati_io::{StdSink, StdSource};
-use coati_top::{Status, coati_still};
+use coati_top::{Status, coati};
 use coati_word::OutOfMemory;
+use device_post::OpenGate;
 use std::io::ErrorKind;
 use std::process::ExitCode;
 use std::rt::Env;
@@ -33,7 +34,7 @@ fn main(rt: HostRuntime) -> ExitCode {
         Ok(words) => {
             let mut input = StdSource::new(rt.reader());
             let mut output = StdSink::new(io::writer(&rt));
-            coati_still(rt.alloc(), &words, &mut input, &mut output).status
+            coati(&rt, rt.alloc(), &words, &mut input, &mut output, &OpenGate).status
         }
         Err(OutOfMemory) => Status::OutOfMemory,
     };

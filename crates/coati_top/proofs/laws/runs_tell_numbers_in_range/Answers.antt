@@ -7,17 +7,17 @@ returns c mode input run asked made =
     let script = run.script in
     let spelled = asked.source.source in
     let limits = c.scripts_are_within_the_limits.ensures in
-    c.runs_tell_numbers_in_range.ensures mode run made.closed.before
+    c.runs_tell_numbers_in_range.ensures mode run made.sound.closed.before
     (record {
       start = made.start;
       opened = made.opened;
-      end = made.end;
+      end = made.sound.end;
       ran = made.ran;
-      limit = made.limit;
+      limit = made.sound.limit;
       in_turn = made.in_turn;
-      legal = made.legal;
-      last = made.closed.last;
-      only = made.closed.only;
+      legal = made.sound.legal;
+      last = made.sound.closed.last;
+      only = made.sound.closed.only;
     })
     (record {
       accepted = asked.source.accepted;

@@ -2,9 +2,8 @@
 #![tactic(auto)]
 
 use coati_io::{StdSink, StdSource};
-use coati_top::{Status, coati};
+use coati_top::{Status, coati_still};
 use coati_word::OutOfMemory;
-use device_post::OpenGate;
 use std::io::ErrorKind;
 use std::process::ExitCode;
 use std::rt::Env;
@@ -34,7 +33,7 @@ fn main(rt: HostRuntime) -> ExitCode {
         Ok(words) => {
             let mut input = StdSource::new(rt.reader());
             let mut output = StdSink::new(io::writer(&rt));
-            coati(&rt, rt.alloc(), &words, &mut input, &mut output, &OpenGate).status
+            coati_still(rt.alloc(), &words, &mut input, &mut output).status
         }
         Err(OutOfMemory) => Status::OutOfMemory,
     };

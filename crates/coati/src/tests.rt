@@ -1,8 +1,6 @@
 mod conflicts;
-mod desk;
 mod generated;
 mod listings;
-mod live;
 mod loads;
 mod pace;
 mod postings;
@@ -13,8 +11,7 @@ mod traces;
 mod verdicts;
 
 use coati_io::{MemSink, MemSource};
-use coati_top::{Command, Status, coati_still, command_of, spelled_programs_are_well_formed};
-use coati_word::OutOfMemory;
+use coati_top::{Status, coati_still, spelled_programs_are_well_formed};
 use std::alloc::Global;
 use std::process::Abort;
 use std::test::Fail;
@@ -40,7 +37,7 @@ const AMPLE: Edge<'static> = Edge {
     fails: &[],
 };
 
-/// The status of a call on this input that makes no run in threads, and what it wrote.
+/// The status of a call on this input, and what it wrote.
 fn call(
     alloc: Global,
     words: &[&str],
@@ -51,9 +48,6 @@ fn call(
     let mut given = Vec::new(alloc);
     for word in words {
         given.push(String::from_str(alloc, word)?)?;
-    }
-    if let Some(Command::Live(_)) = command_of(&given) {
-        return Err(Fail::from(OutOfMemory));
     }
     let bytes = Vec::from_slice(alloc, input)?;
     let fails = Vec::from_slice(alloc, source.fails)?;

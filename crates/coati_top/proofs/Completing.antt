@@ -14,7 +14,7 @@ use Rattle.task_parse.specs.Lexeme.{Lexeme}
 use Rattle.coati_board.specs.Board.{Whole}
 use Rattle.coati_gen.specs.Generated.{generated}
 use Rattle.coati_top.specs.declared.command.Command.{Command}
-use Rattle.coati_top.specs.declared.command.Command.TheVariants.{Check, Dump, Run, Live, Replay, Generate, Load}
+use Rattle.coati_top.specs.declared.command.Command.TheVariants.{Check, Dump, Run, Replay, Generate, Load}
 use Rattle.coati_top.specs.declared.refusal.Refusal.{Refusal}
 use Rattle.coati_top.specs.declared.refusal.Refusal.TheVariants as refusal
 use Rattle.coati_top.specs.declared.source_fault.SourceFault.{SourceFault}
@@ -167,7 +167,6 @@ never_both one Check input text board shows other cause = absurd cause
 never_both one Dump input text board shows (refusal.Source fault) cause = no_fault one input shows.program shows.source.source shows.source.accepted fault cause
 never_both one Dump input text board shows other cause = absurd cause
 never_both one (Run mode) input text board shows why cause = never_run one input shows.run.program shows.run.script shows.asked why cause
-never_both one (Live mode) input text board shows why cause = never_run one input shows.run.program shows.run.script shows.asked why cause
 never_both one (Replay mode) input text board shows why cause = never_replayed one mode input shows.print why cause
 never_both one (Generate rounds) input text board shows why cause = cause
 never_both one (Load mode rounds) input text board shows why cause =
@@ -180,7 +179,6 @@ no_refusal one Check bytes can other cause = absurd cause
 no_refusal one Dump bytes can (refusal.Source fault) cause = no_fault one bytes can.program can.source.source can.source.accepted fault cause
 no_refusal one Dump bytes can other cause = absurd cause
 no_refusal one (Run mode) bytes can why cause = never_run one bytes can.program can.script can.asked why cause
-no_refusal one (Live mode) bytes can why cause = never_run one bytes can.program can.script can.asked why cause
 no_refusal one (Replay mode) bytes can why cause = never_replayed one mode bytes can why cause
 no_refusal one (Generate rounds) bytes can why cause = cause
 no_refusal one (Load mode rounds) bytes can why cause = never_run one (generated rounds) can.program can.script can.asked why cause
@@ -230,7 +228,6 @@ one_status one Dump bytes (refusal.Source fault) (refusal.Source found) cause kn
 one_status one Dump bytes (refusal.Source fault) other cause known = absurd known
 one_status one Dump bytes why other cause known = absurd cause
 one_status one (Run mode) bytes why other cause known = one_run_status one bytes why other cause known
-one_status one (Live mode) bytes why other cause known = one_run_status one bytes why other cause known
 one_status one (Replay mode) bytes (refusal.Trace fault) other cause known = absurd cause
 one_status one (Replay mode) bytes why (refusal.Trace fault) cause known = absurd known
 one_status one (Replay mode) bytes (refusal.Source fault) (refusal.Source found) cause known = refl

@@ -1,13 +1,11 @@
 -- Why a command ended as it did, from the answer that was delivered.
 use Rattle.std.proofs.Common.{◌≡◌, ℕ, ◌+◌, Bool, true, false, List, [], refl, sym, ap, ◌∙◌, subst, inl, inr}
 use Rattle.std.specs.Prelude.{Option, None}
-use Rattle.coati_io.specs.declared.reading.ReadEnd.{ReadEnd}
-use Rattle.coati_io.specs.declared.reading.ReadEnd.TheVariants as read_end
-use Rattle.coati_io.specs.Ends.{ReadsWhole, StopsReading}
+use Rattle.coati_io.specs.Ends.{ReadsWhole, ConsumesExactly}
 use Rattle.coati_board.specs.Board.{Whole}
 use Rattle.coati_top.specs.declared.command.Command.{Command}
 use Rattle.coati_top.specs.declared.status.Status.{Status}
-use Rattle.coati_top.specs.declared.status.Status.TheVariants.{Ok, ReadFault, WriteFault, TooLarge, OutOfMemory}
+use Rattle.coati_top.specs.declared.status.Status.TheVariants.{Ok, WriteFault, TooLarge, OutOfMemory}
 use Rattle.coati_top.specs.declared.refusal.Refusal.{Refusal}
 use Rattle.coati_top.specs.declared.refusal.Refusal.TheVariants as refusal
 use Rattle.coati_top.specs.Answer.{Answers}
@@ -16,7 +14,7 @@ use Rattle.coati_top.specs.Refusal.{too_large_text}
 use Rattle.coati_top.specs.Refused.{status_of}
 use Rattle.coati_top.specs.Words.{reads}
 use Rattle.coati_io.specs.Writing.{OutputEdge, WritesAll, WritesFront, WritesOrFails}
-use Rattle.coati_top.specs.Call.{InputEdge, Answered, CommandEnded, HasRead, IsUnread, ReadingFailed, after_fault, Delivers, DeliversAnswer, Tells, input_limit}
+use Rattle.coati_top.specs.Call.{InputEdge, Answered, CommandEnded, HasRead, after_fault, Delivers, DeliversAnswer, Tells, input_limit}
 use Rattle.coati_top.specs.Call.DeliversAnswer.{delivered, starved}
 use Rattle.coati_top.specs.Call.Tells.{unwritten, written}
 use Rattle.coati_top.specs.declared.served.Served.{Served}
@@ -88,24 +86,10 @@ module _ (command : Command) (input : InputEdge) (output : OutputEdge) (board : 
     ended_answer status (delivered before text answers delivers) = ended_delivered status before text answers delivers
     ended_answer status (starved is nothing none) = ended_at status OutOfMemory is (nothing, none)
 
-  -- an input that was not read
-  pub ended_unread : (why : ReadEnd) (status : Status) → reads command ≡ true →
-      StopsReading input.old input.new input_limit why →
-      (why ≡ read_end.Fault → ReadingFailed input) →
-      IsUnread why status output board → CommandEnded command status input output board
-  ended_unread read_end.Fault status does stopped failed told =
-      ended_at status ReadFault told.0 (does, failed refl, told.1, told.2)
-  ended_unread read_end.TooLarge status does stopped failed told =
-      ended_at status TooLarge told.0 (does, stopped, told.1, told.2)
-  ended_unread read_end.OutOfMemory status does stopped failed told =
-      ended_at status OutOfMemory told.0 (told.1, told.2)
-
--- the line that tells of a long input was written, or the sink failed
-pub told_too_large : (status : Status) (output : OutputEdge) →
-    Delivers TooLarge status output too_large_text →
-    (status ≡ TooLarge) × WritesOrFails output too_large_text
-told_too_large status output (inl all) = (all.0, inl all.1)
-told_too_large status output (inr front) = (front.0, inr front.1)
+  pub ended_too_large : (status : Status) → reads command ≡ true → ConsumesExactly input.old input.new (input_limit + 1)
+      → Delivers TooLarge status output too_large_text → board ≡ None → CommandEnded command status input output board
+  ended_too_large status does consumed (inl all) none = ended_at status TooLarge all.0 (does, consumed, inl all.1, none)
+  ended_too_large status does consumed (inr front) none = ended_at status TooLarge front.0 (does, consumed, inr front.1, none)
 
 -- what a command gives is delivered as its answer
 pub tells_answer : (command : Command) (bytes : List ℕ) (output : OutputEdge) (board : Option Whole) (before status : Status) (told : Served)

@@ -6,8 +6,6 @@ pub mod Numbered
 pub mod OnlyNames
 pub mod Running
 pub mod Scripts
-pub mod AskedRuns
-pub mod LiveRuns
 pub mod SourcesRefused
 pub mod SpelledNames
 pub mod Tallies

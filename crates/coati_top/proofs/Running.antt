@@ -11,8 +11,8 @@ use Rattle.task_cost.specs.Limits.{handler_bound}
 use Rattle.task_syntax.specs.declared.program.Program.{Program}
 use Rattle.coati_device.specs.declared.device.Device.{Device}
 use Rattle.coati_device.specs.Laws.{IsFresh}
-use Rattle.coati_board.specs.Board.{CanBeRun, IsOpen, IsOpened, IsRoomier, IsSameRun, Whole}
-use Rattle.executor.specs.Run.{HasMadeAllSteps, HasRun, closed}
+use Rattle.coati_board.specs.Board.{CanBeRun, IsOpened, IsRoomier, IsSameRun, Whole}
+use Rattle.executor.specs.Run.{HasMadeAllSteps, HasRun}
 use Rattle.coati_top.specs.Runs.{HasRaisedAll, IsClosedBy, IsEndedBy}
 
 -- a device with more room is still before its first step
@@ -61,19 +61,15 @@ can_run program mode script board opened room = record {
   room = rw (opened.program_is, opened.script_is) room;
 }
 
--- a board that was closed has its End mark last, and no other
-pub closed_behind : (last run : Whole) (end : End) → run ≡ closed last end → IsOpen last →
-    IsClosedBy end run
-closed_behind last run end is still_open = record {
-  before = last.device.history.marks;
-  last = subst (λ (board : Whole). board.device.history.marks
-      ≡ last.device.history.marks
-      ++ record { at = board.device.clock; kind = kind.End end } ∷ []) (sym is) refl;
-  only = still_open;
-}
-
+-- its End mark is the last, and the only one
 pub closed_by : (start run : Whole) (end : End) → HasRun start end run → IsClosedBy end run
-closed_by start run end ran = closed_behind ran.last run end ran.closed ran.still_open
+closed_by start run end ran = record {
+  before = ran.last.device.history.marks;
+  last = subst (λ (board : Whole). board.device.history.marks
+      ≡ ran.last.device.history.marks ++ record { at = board.device.clock; kind = kind.End end } ∷ [])
+      (sym ran.closed) refl;
+  only = ran.still_open;
+}
 
 -- what is so at the end that it came to, from what is so at each
 pub ended_by : (end : End) (run : Whole) → (end ≡ Idle → HasRaisedAll run) → (end ≡ Limit → HasMadeAllSteps run)

@@ -9,7 +9,7 @@ use Rattle.codegen.specs.Listing.{listing}
 use Rattle.coati_gen.specs.Generated.{generated}
 use Rattle.trace_text.specs.Trace.{TraceText}
 use Rattle.coati_top.specs.declared.command.Command.{Command}
-use Rattle.coati_top.specs.declared.command.Command.TheVariants.{Check, Dump, Run, Live, Replay, Generate, Load}
+use Rattle.coati_top.specs.declared.command.Command.TheVariants.{Check, Dump, Run, Replay, Generate, Load}
 use Rattle.coati_top.specs.declared.refusal.Refusal.{Refusal}
 use Rattle.coati_top.specs.declared.status.Status.{Status}
 use Rattle.coati_top.specs.declared.status.Status.TheVariants.{Ok}
@@ -19,7 +19,7 @@ use Rattle.trace_out.specs.BoardText.{board_text}
 use Rattle.coati_top.specs.Loaded.{load_text}
 use Rattle.coati_top.specs.Refused.{Refuses, status_of, text_of}
 use Rattle.coati_top.specs.Replayed.{HasSerialPrint, serial_text}
-use Rattle.coati_top.specs.Runs.{IsLiveRun, IsRun}
+use Rattle.coati_top.specs.Runs.{IsRun}
 use Rattle.coati_top.specs.Source.{HasAccepted}
 
 -- the input asks for a run of this program by this script: its source is the program, which is
@@ -41,14 +41,6 @@ pub record ShowsRun (mode : Mode) (input text : List ℕ) (board : Option Whole)
   pub run : Whole
   pub asked : AsksFor input run.program run.script
   pub made : IsRun mode run
-  pub text_is : text ≡ board_text run
-  pub kept : board ≡ Some run
-
--- so, where it was made in threads
-pub record ShowsLive (mode : Mode) (input text : List ℕ) (board : Option Whole) : Type 0 where
-  pub run : Whole
-  pub asked : AsksFor input run.program run.script
-  pub made : IsLiveRun mode run
   pub text_is : text ≡ board_text run
   pub kept : board ≡ Some run
 
@@ -74,7 +66,6 @@ abbrev pub Serves : Command → List ℕ → List ℕ → Option Whole → Type 
 Serves Check input text board = ShowsProgram check_text input text board
 Serves Dump input text board = ShowsProgram listing input text board
 Serves (Run mode) input text board = ShowsRun mode input text board
-Serves (Live mode) input text board = ShowsLive mode input text board
 Serves (Replay mode) input text board = ShowsSerial mode input text board
 Serves (Generate rounds) input text board = (text ≡ generated rounds) × (board ≡ None)
 Serves (Load mode rounds) input text board = ShowsLoad mode rounds text board

@@ -1,8 +1,6 @@
 -- What a call of the program did at its two ends, and why it ended with its status.
 use Rattle.std.specs.Prelude.{◌≡◌, ◌⊎◌, ℕ, ◌+◌, Bool, true, false, List, [], Option, Some, None}
 use Rattle.coati_io.specs.Causes.{Rose}
-use Rattle.coati_io.specs.declared.reading.ReadEnd.{ReadEnd}
-use Rattle.coati_io.specs.declared.reading.ReadEnd.TheVariants as read_end
 use Rattle.coati_io.specs.Ends.{ReadsWhole, ConsumesExactly}
 use Rattle.coati_io.specs.Writing.{OutputEdge, WritesAll, WritesFront, WritesNothing, WritesOrFails}
 use Rattle.coati_top.specs.declared.command.Command.{Command}
@@ -73,15 +71,6 @@ CommandEnded command TooLarge input output board =
 CommandEnded command OutOfMemory input output board = WritesNothing output × (board ≡ None)
 CommandEnded command status input output board =
     Answered command status input board (WritesOrFails output)
-
--- the input was not read for this reason, which was told
-abbrev pub IsUnread : ReadEnd → Status → OutputEdge → Option Whole → Type 0
-IsUnread read_end.Fault status output board =
-    (status ≡ ReadFault) × WritesNothing output × (board ≡ None)
-IsUnread read_end.TooLarge status output board =
-    (status ≡ TooLarge) × WritesOrFails output too_large_text × (board ≡ None)
-IsUnread read_end.OutOfMemory status output board =
-    (status ≡ OutOfMemory) × WritesNothing output × (board ≡ None)
 
 -- why a call ended with this status: the words name no command, or the command's own reason
 abbrev pub CallEnded : Option Command → Status → InputEdge → OutputEdge → Option Whole → Type 0

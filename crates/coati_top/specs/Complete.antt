@@ -7,7 +7,7 @@ use Rattle.coati_top.specs.Answer.{AsksFor}
 use Rattle.coati_io.specs.Writing.{OutputEdge, WritingFailed}
 use Rattle.coati_top.specs.Call.{InputEdge, ReadingFailed, input_limit}
 use Rattle.coati_top.specs.declared.command.Command.{Command}
-use Rattle.coati_top.specs.declared.command.Command.TheVariants.{Check, Dump, Run, Live, Replay, Generate, Load}
+use Rattle.coati_top.specs.declared.command.Command.TheVariants.{Check, Dump, Run, Replay, Generate, Load}
 use Rattle.coati_top.specs.declared.refusal.Refusal.{Refusal}
 use Rattle.coati_top.specs.Refused.{Refuses, status_of}
 use Rattle.coati_top.specs.Replayed.{HasSerialPrint}
@@ -50,7 +50,6 @@ abbrev pub CanServe : Command → List ℕ → Type 0
 CanServe Check bytes = IsMeasurable bytes
 CanServe Dump bytes = IsMeasurable bytes
 CanServe (Run mode) bytes = IsRunnable bytes
-CanServe (Live mode) bytes = IsRunnable bytes
 CanServe (Replay mode) bytes = HasSerialPrint mode bytes
 CanServe (Generate rounds) bytes = Unit {0}
 CanServe (Load mode rounds) bytes = IsRunnable (generated rounds)

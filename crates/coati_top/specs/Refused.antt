@@ -6,7 +6,7 @@ use Rattle.task_syntax.specs.declared.program.Program.{Program}
 use Rattle.trace_text.specs.Trace.{FirstFault}
 use Rattle.trace_text.specs.declared.fault.TraceFault.{TraceFault}
 use Rattle.coati_top.specs.declared.command.Command.{Command}
-use Rattle.coati_top.specs.declared.command.Command.TheVariants.{Check, Dump, Run, Live, Replay, Generate, Load}
+use Rattle.coati_top.specs.declared.command.Command.TheVariants.{Check, Dump, Run, Replay, Generate, Load}
 use Rattle.coati_top.specs.declared.refusal.Refusal.{Refusal}
 use Rattle.coati_top.specs.declared.refusal.Refusal.TheVariants as refusal
 use Rattle.coati_top.specs.declared.refusal.Unserved.{Unserved}
@@ -62,7 +62,6 @@ abbrev pub Refuses : Command → List ℕ → Refusal → Type 0
 Refuses Check input why = RefusesSource input why
 Refuses Dump input why = RefusesSource input why
 Refuses (Run mode) input why = RefusesRun input why
-Refuses (Live mode) input why = RefusesRun input why
 Refuses (Replay mode) input why = RefusesReplay mode input why
 Refuses (Load mode rounds) input why = RefusesRun (generated rounds) why
 Refuses (Generate rounds) input why = ⊥

@@ -14,7 +14,7 @@ use Rattle.coati_top.specs.Source.{HasAccepted}
 abbrev pub RunsTellNumbersInRange : Type 0
 RunsTellNumbersInRange =
     (mode : Mode) (input : List ℕ) (run : Whole) → AsksFor input run.program run.script →
-    (made : IsRun mode run) → TellsNumbersInRange run made.sound.closed.before
+    (made : IsRun mode run) → TellsNumbersInRange run made.closed.before
 
 -- the first input asks for a run, which was made; the other one has the same program, and its
 -- second part is the text of the run

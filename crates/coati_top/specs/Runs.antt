@@ -1,5 +1,5 @@
 -- A run: from the board that was opened to its end by the script, where it is ended.
-use Rattle.std.specs.Prelude.{◌≡◌, ◌≤◌, ◌↔◌, List, [], ◌∷◌, ◌++◌, None}
+use Rattle.std.specs.Prelude.{◌≡◌, ◌≤◌, List, [], ◌∷◌, ◌++◌, None}
 use Rattle.coati_word.specs.declared.mode.Mode.{Mode}
 use Rattle.coati_word.specs.declared.mode.Mode.TheVariants.{Buffi, Split}
 use Rattle.nv_memory.specs.State.{state}
@@ -14,8 +14,7 @@ use Rattle.serial_log.specs.SerialRun.{SerialRun}
 use Rattle.serial_log.specs.Standing.{standing_of}
 use Rattle.task_cost.specs.Limits.{period_bound}
 use Rattle.coati_device.specs.Points.{StandsFor}
-use Rattle.coati_board.specs.Board.{IsIdleBoard, IsOpened, Whole, end_of, terms_of}
-use Rattle.coati_board.specs.Postings.{ArePostingsWhole}
+use Rattle.coati_board.specs.Board.{IsOpened, Whole, end_of, terms_of}
 use Rattle.executor.specs.InTurn.{ArePostingsInTurn, turns_of}
 use Rattle.executor.specs.Run.{HasMadeAllSteps, HasRun}
 
@@ -35,16 +34,22 @@ pub record IsClosedBy (end : End) (run : Whole) : Type 0 where
       ≡ before ++ record { at = run.device.clock; kind = kind.End end } ∷ []
   pub only : end_of before ≡ None
 
--- What the board of every run in a mode is: it was ended within the limit, with one End mark, the
--- last. The history is legal, and so a serial run of the program; memory stands for where the
+-- The board of a run in a mode: it was opened for its program and its script, ran to its end, and
+-- was ended there, within the limit, with one End mark, the last. Each posting was raised in its
+-- turn. The history is legal, and so a serial run of the program; memory stands for where the
 -- history leads, what is held with it; the boots are at the ends of the power periods; events were
--- served between units, or at once; and where it was left alone for a power period that suffices, a
--- task ended in it, or nothing was left to do behind it.
-pub record IsSoundRun (mode : Mode) (run : Whole) : Type 0 where
+-- served between units; and where it was left alone for a power period that suffices, a task ended
+-- in it, or nothing was left to do behind it.
+pub record IsRun (mode : Mode) (run : Whole) : Type 0 where
   pub mode_is : run.mode ≡ mode
+  pub start : Whole
+  pub opened : IsOpened run.program mode run.script start
   pub end : End
+  pub ran : HasRun start end run
   pub closed : IsClosedBy end run
+  pub ended : IsEndedBy end run
   pub limit : run.device.steps ≤ run.script.limit
+  pub in_turn : ArePostingsInTurn run.script.postings run.device.history.marks
   pub legal : IsLegalHistory (terms_of run.program mode) run.device.history
   pub serial : SerialRun run.program run.device.history
   pub stands : StandsFor run.program (state run.device.image)
@@ -56,21 +61,3 @@ pub record IsSoundRun (mode : Mode) (run : Whole) : Type 0 where
   pub aborts : ServesAborts run.device.history.marks
   pub progress : EndsTasksInTime run.program (period_bound run.program) run.device.clock
       run.device.history.marks
-
--- The board of a run by its script: from the board that was opened to its end by the script, each
--- posting raised in its turn.
-pub record IsRun (mode : Mode) (run : Whole) : Type 0 where
-  pub sound : IsSoundRun mode run
-  pub start : Whole
-  pub opened : IsOpened run.program mode run.script start
-  pub ran : HasRun start sound.end run
-  pub ended : IsEndedBy sound.end run
-  pub in_turn : ArePostingsInTurn run.script.postings run.device.history.marks
-
--- The board of a run in threads: each device has raised its whole script, in its order. It ends
--- Idle exactly where nothing is left to do, and otherwise the steps are the limit.
-pub record IsLiveRun (mode : Mode) (run : Whole) : Type 0 where
-  pub sound : IsSoundRun mode run
-  pub whole : ArePostingsWhole run.script.postings run.device.history.marks
-  pub idle : (sound.end ≡ Idle) ↔ IsIdleBoard run
-  pub made : sound.end ≡ Limit → run.device.steps ≡ run.script.limit

@@ -5,14 +5,13 @@ use Rattle.trace_text.specs.Reading.{number_in}
 use Rattle.coati_word.specs.declared.mode.Mode.{Mode}
 use Rattle.coati_word.specs.declared.mode.Mode.TheVariants.{Buffi, Split}
 use Rattle.coati_top.specs.declared.command.Command.{Command}
-use Rattle.coati_top.specs.declared.command.Command.TheVariants.{Check, Dump, Run, Live, Replay, Generate, Load}
+use Rattle.coati_top.specs.declared.command.Command.TheVariants.{Check, Dump, Run, Replay, Generate, Load}
 
 -- whether a command reads its input
 abbrev pub reads : Command → Bool
 reads Check = true
 reads Dump = true
 reads (Run mode) = true
-reads (Live mode) = true
 reads (Replay mode) = true
 reads (Generate rounds) = false
 reads (Load mode rounds) = false
@@ -26,11 +25,6 @@ abbrev pub IsServable : Command → Type 0
 IsServable (Generate rounds) = rounds ≤ greatest_rounds
 IsServable (Load mode rounds) = rounds ≤ greatest_rounds
 IsServable _ = Unit {0}
-
--- the words ask for no run in threads
-abbrev pub IsStill : Option Command → Type 0
-IsStill (Some (Live mode)) = ⊥
-IsStill _ = Unit {0}
 
 -- the number of rounds of which the word is the decimal
 abbrev pub rounds_of : List ℕ → Option ℕ
@@ -50,9 +44,8 @@ loading mode rounds = option_and_then (λ m. option_map (Load m) (rounds_of roun
 abbrev pub command_of_two : List ℕ → List ℕ → Option Command
 command_of_two command word =
     if bytes_eq command (codes "run") then option_map Run (mode_of word)
-    else (if bytes_eq command (codes "live") then option_map Live (mode_of word)
     else (if bytes_eq command (codes "replay") then option_map Replay (mode_of word)
-    else (if bytes_eq command (codes "gen") then option_map Generate (rounds_of word) else None)))
+    else (if bytes_eq command (codes "gen") then option_map Generate (rounds_of word) else None))
 
 -- the command that the words are, if they are one
 abbrev pub command_of : List (List ℕ) → Option Command

@@ -13,9 +13,6 @@ pub enum Command {
     Dump,
     /// Run the source of the input, with the events in this mode.
     Run(Mode),
-    /// Run the source of the input, the executor and each device in a thread of its own, with the
-    /// events in this mode.
-    Live(Mode),
     /// Tell whether the printed text of the input is a serial run of its source, in this mode.
     Replay(Mode),
     /// Give a source and a trace of so many rounds.
@@ -30,8 +27,7 @@ impl Command {
         ensures { result ≡ reads self }
     {
         match self {
-            Command::Check | Command::Dump => true,
-            Command::Run(_) | Command::Live(_) | Command::Replay(_) => true,
+            Command::Check | Command::Dump | Command::Run(_) | Command::Replay(_) => true,
             Command::Generate(_) | Command::Load(..) => false,
         }
     }
@@ -46,7 +42,6 @@ pub fn command_of(words: &[String]) -> Option<Command>
         [command] if command.as_str() == "check" => Some(Command::Check),
         [command] if command.as_str() == "dump" => Some(Command::Dump),
         [command, mode] if command.as_str() == "run" => mode_of(mode).map(Command::Run),
-        [command, mode] if command.as_str() == "live" => mode_of(mode).map(Command::Live),
         [command, mode] if command.as_str() == "replay" => mode_of(mode).map(Command::Replay),
         [command, rounds] if command.as_str() == "gen" => rounds_of(rounds).map(Command::Generate),
         [command, mode, rounds] if command.as_str() == "load" => loading(mode, rounds),

@@ -1,7 +1,6 @@
 //! Runs.
 
 ghost use Rattle.std.specs.Prelude.{◌≡◌, ◌+◌, ◌*◌, ◌≤◌, length, IfOk};
-ghost use Rattle.coati_board.specs.Board.{IsOpened};
 ghost use Rattle.coati_board.specs.Served.{IsScript};
 ghost use Rattle.task_cost.specs.Limits.{handler_bound};
 ghost use Rattle.coati_top.specs.Runs.{IsRun};
@@ -30,31 +29,14 @@ pub(crate) fn run_script(
     ensures run { IfOk result (IsRun mode) }
 {
     legal_histories_keep_each_fact();
-    let mut board = ready(alloc, checked, mode, script)?;
-    let _end = run_scripted(&mut board);
-    // The steps are within the limit, and the history is legal.
-    let _steps = board.executor_steps();
-    let _history = board.history();
-    Ok(board)
-}
-
-/// The board of a run before its first step, with room for all of it.
-pub fn ready(
-    alloc: Global,
-    checked: Checked,
-    mode: Mode,
-    script: Script,
-) -> Result<Board, OutOfMemory>
-    requires script { IsScript checked script }
-    requires steps { script.limit + handler_bound checked * length script.postings ≤ 4000000 }
-    ensures opened { IfOk result (IsOpened checked mode script) }
-    ensures room { IfOk result (λ board. script.limit
-        + handler_bound checked * length script.postings ≤ board.device.spare) }
-{
     let steps = greatest_steps(&checked, &script);
     let code = compile(alloc, &checked)?;
     let mut board = Board::open(alloc, checked, code, mode, script)?;
     board.reserve(steps)?;
+    let _end = run_scripted(&mut board);
+    // The steps are within the limit, and the history is legal.
+    let _steps = board.executor_steps();
+    let _history = board.history();
     Ok(board)
 }
 

@@ -8,7 +8,6 @@ mod divided;
 mod drive;
 mod judged_texts;
 mod laws;
-mod live;
 mod load_text;
 mod loaded;
 mod refusal;
@@ -25,13 +24,11 @@ mod verdict_text;
 
 pub use command::{Command, command_of};
 pub use divided::{second_part, source_part};
-pub use drive::ready;
 pub use judged_texts::printed_texts_may_be_judged;
 pub use laws::{
     an_input_has_one_division, runs_replay_serially, runs_tell_numbers_in_range,
     spelled_programs_are_well_formed,
 };
-pub use live::coati;
 pub use source::read_source;
 pub use source_fault::{NoProgram, SourceFault};
 pub use source_refusal::{put_rule, rule_number};

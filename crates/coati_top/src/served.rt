@@ -1,16 +1,14 @@
 //! What each command gives to an input that it serves.
 
 ghost use Rattle.coati_gen.specs.Generated.{generated};
-ghost use Rattle.std.specs.Prelude.{◌≡◌, ◌+◌, ◌*◌, ◌≤◌, length, IfErr, IfOk, Some};
-ghost use Rattle.coati_board.specs.Served.{IsScript};
-ghost use Rattle.task_cost.specs.Limits.{handler_bound};
+ghost use Rattle.std.specs.Prelude.{◌≡◌, ◌≤◌, length, IfErr, IfOk};
 ghost use Rattle.coati_top.specs.Answer.{AsksFor, Serves};
 ghost use Rattle.coati_top.specs.Refused.{IsUnserved, Refuses, RefusesRun, RefusesSource};
 ghost use Rattle.coati_top.specs.Runs.{IsRun};
 ghost use Rattle.coati_top.specs.Served.{served_board, served_text};
 ghost use Rattle.coati_top.specs.Source.{HasAccepted};
 ghost use Rattle.coati_top.specs.Divided.{second_part};
-ghost use Rattle.coati_top.specs.Words.{IsServable, IsStill, greatest_rounds};
+ghost use Rattle.coati_top.specs.Words.{IsServable, greatest_rounds};
 ghost use Rattle.trace_text.specs.Trace.{TraceText};
 
 use crate::Command;
@@ -45,7 +43,6 @@ pub(crate) enum Served {
 pub(crate) fn serve(alloc: Global, command: Command, input: &[u8]) -> Result<Served, Unserved>
     requires small { length input.now ≤ 262144 }
     requires servable { IsServable command }
-    requires still { IsStill (Some command) }
     ensures served { IfOk result (λ given. Serves command input.now (served_text given)
         (served_board given)) }
     ensures unserved { IfErr result (IsUnserved (Refuses command input.now)) }
@@ -54,7 +51,6 @@ pub(crate) fn serve(alloc: Global, command: Command, input: &[u8]) -> Result<Ser
         Command::Check => measured(alloc, input),
         Command::Dump => listed(alloc, input),
         Command::Run(mode) => ran(alloc, mode, input),
-        Command::Live(_) => unreachable!(),
         Command::Replay(mode) => replayed(alloc, mode, input),
         Command::Generate(rounds) => {
             let text = generated(alloc, rounds)?;
@@ -106,30 +102,10 @@ pub(crate) fn run_of(alloc: Global, mode: Mode, input: &[u8]) -> Result<Board, U
     ensures made { IfOk result (IsRun mode) }
     ensures unserved { IfErr result (IsUnserved (RefusesRun input.now)) }
 {
-    let asked = asked_for(alloc, input)?;
-    let Asked { checked, script } = asked;
-    Ok(run_script(alloc, checked, mode, script)?)
-}
-
-/// What an input asks for that asks for a run.
-pub(crate) struct Asked {
-    pub(crate) checked: Checked,
-    pub(crate) script: Script,
-}
-
-/// The program and the script of the run that the input asks for.
-pub(crate) fn asked_for(alloc: Global, input: &[u8]) -> Result<Asked, Unserved>
-    requires { length input.now ≤ 262144 }
-    ensures asked { IfOk result (λ asked. AsksFor input.now asked.checked asked.script) }
-    ensures scripted { IfOk result (λ asked. IsScript asked.checked asked.script) }
-    ensures steps { IfOk result (λ asked. asked.script.limit
-        + handler_bound asked.checked * length asked.script.postings ≤ 4000000) }
-    ensures unserved { IfErr result (IsUnserved (RefusesRun input.now)) }
-{
     scripts_are_within_the_limits();
     let checked = accepted(alloc, input)?;
     let script = traced(alloc, input, &checked)?;
-    Ok(Asked { checked, script })
+    Ok(run_script(alloc, checked, mode, script)?)
 }
 
 /// The generated input of so many rounds.

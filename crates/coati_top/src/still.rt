@@ -1,11 +1,8 @@
-ghost use Rattle.std.specs.Prelude.{◌≡◌, ◌≤◌, length, map, string_bytes, IfOk, None, Some};
+ghost use Rattle.std.specs.Prelude.{◌≡◌, ◌≤◌, length, map, string_bytes, None, Some};
 ghost use Rattle.coati_io.specs.Writing.{output_edge};
-ghost use Rattle.coati_top.specs.Answer.{Answers};
-ghost use Rattle.coati_top.specs.Call.{input_edge, after_fault, CallEnded, CommandEnded, Delivers};
-ghost use Rattle.coati_top.specs.Call.{DeliversAnswer, IsUnread, LeavesInput, Tells};
+ghost use Rattle.coati_top.specs.Call.{input_edge, after_fault, CallEnded, CommandEnded, Delivers, DeliversAnswer, LeavesInput, Tells};
 ghost use Rattle.coati_top.specs.Complete.{Completes, IsSteadyInput};
-ghost use Rattle.coati_top.specs.Served.{served_board, served_text};
-ghost use Rattle.coati_top.specs.Words.{IsServable, IsStill, command_of};
+ghost use Rattle.coati_top.specs.Words.{IsServable, command_of};
 
 use crate::answer::{Reply, reply_to};
 use crate::laws::spelled_programs_are_well_formed;
@@ -14,7 +11,6 @@ use crate::{Command, Done, Status, command_of};
 use coati_board::Board;
 use coati_io::{ReadEnd, Sink, Source, read_all, write_all};
 use coati_replay::{serial_texts_are_legal, verdicts_are_unique};
-use coati_word::OutOfMemory;
 use coati_word::limits::INPUT_BYTES;
 use std::alloc::Global;
 use task_check::laws::refused_is_not_accepted;
@@ -23,15 +19,13 @@ use task_parse::{a_list_is_one_program, each_list_has_one_answer};
 use trace_out::{PrintEnd, each_text_says_one_thing, print};
 use trace_text::each_text_has_one_answer;
 
-/// Does what the words say, from the input to the output, where they ask for no run in threads. It
-/// returns, whatever these do.
+/// Does what the words say, from the input to the output. It returns, whatever these do.
 pub fn coati_still<S: Source, K: Sink>(
     alloc: Global,
     words: &[String],
     input: &mut S,
     output: &mut K,
 ) -> Done
-    requires { IsStill (command_of (map string_bytes words.now)) }
     ensures ended { CallEnded (command_of (map string_bytes words.now)) result.status
         (input_edge S.left S.faults input.old input.new)
         (output_edge K.taken K.faults K.spare output.old output.new) result.board }
@@ -66,8 +60,7 @@ const USAGE: &[u8] =
 
 /// Does what a command says.
 fn run<S: Source, K: Sink>(alloc: Global, command: Command, input: &mut S, output: &mut K) -> Done
-    requires servable { IsServable command }
-    requires still { IsStill (Some command) }
+    requires { IsServable command }
     ensures ended { CommandEnded command result.status
         (input_edge S.left S.faults input.old input.new)
         (output_edge K.taken K.faults K.spare output.old output.new) result.board }
@@ -81,21 +74,11 @@ fn run<S: Source, K: Sink>(alloc: Global, command: Command, input: &mut S, outpu
     }
     match read_all(alloc, input, INPUT_BYTES) {
         Ok(bytes) => answer(alloc, command, &bytes, output),
-        Err(why) => unread(why, output),
-    }
-}
-
-/// Tells why the input was not read.
-pub(crate) fn unread<K: Sink>(why: ReadEnd, output: &mut K) -> Done
-    ensures { IsUnread why result.status
-        (output_edge K.taken K.faults K.spare output.old output.new) result.board }
-{
-    match why {
-        ReadEnd::Fault => without_board(Status::ReadFault),
-        ReadEnd::TooLarge => {
+        Err(ReadEnd::Fault) => without_board(Status::ReadFault),
+        Err(ReadEnd::TooLarge) => {
             without_board(deliver(output, Status::TooLarge, b"input too large\n"))
         }
-        ReadEnd::OutOfMemory => without_board(Status::OutOfMemory),
+        Err(ReadEnd::OutOfMemory) => without_board(Status::OutOfMemory),
     }
 }
 
@@ -103,35 +86,12 @@ pub(crate) fn unread<K: Sink>(why: ReadEnd, output: &mut K) -> Done
 fn answer<K: Sink>(alloc: Global, command: Command, bytes: &[u8], output: &mut K) -> Done
     requires small { length bytes.now ≤ 262144 }
     requires servable { IsServable command }
-    requires still { IsStill (Some command) }
     ensures { DeliversAnswer command bytes.now result.status
         (output_edge K.taken K.faults K.spare output.old output.new) result.board }
 {
-    deliver_reply(
-        alloc,
-        command,
-        bytes,
-        reply_to(alloc, command, bytes),
-        output,
-    )
-}
-
-/// Writes the answer of a command to what was read.
-pub(crate) fn deliver_reply<K: Sink>(
-    alloc: Global,
-    command: Command,
-    bytes: &[u8],
-    reply: Result<Reply, OutOfMemory>,
-    output: &mut K,
-) -> Done
-    requires { IfOk reply (λ given. Answers command bytes.now given.status
-        (served_text given.told) (served_board given.told)) }
-    ensures { DeliversAnswer command bytes.now result.status
-        (output_edge K.taken K.faults K.spare output.old output.new) result.board }
-{
-    match reply {
+    match reply_to(alloc, command, bytes) {
         Ok(Reply { status, told }) => tell(alloc, status, told, output),
-        Err(OutOfMemory) => without_board(Status::OutOfMemory),
+        Err(_) => without_board(Status::OutOfMemory),
     }
 }
 

@@ -46,7 +46,7 @@ fn the_input_of_no_round_is_given_and_run(rt: HostRuntime) -> Result<(), Fail> {
 }
 
 /// How many lines of a text begin with these bytes.
-pub(super) fn lines_with(text: &[u8], front: &[u8]) -> usize {
+fn lines_with(text: &[u8], front: &[u8]) -> usize {
     text.split(|byte| *byte == b'\n')
         .filter(|line| line.starts_with(front))
         .count()

@@ -13,8 +13,8 @@ pub returns : goal.returns
 returns c mode first input run has =
     let program = run.program in
     let past = run.device.history in
-    let before = has.made.sound.closed.before in
-    let ending = has.made.sound.end in
+    let before = has.made.closed.before in
+    let ending = has.made.end in
     let at = run.device.clock in
     let store = (stand_of program past).store in
     let held = length (rest_of program past.marks) in
@@ -22,12 +22,12 @@ returns c mode first input run has =
     let range = c.runs_tell_numbers_in_range.ensures mode first run has.asked has.made in
     let says = c.runs_say_what_they_show.ensures program mode before past.readings at ending store held range in
     let text =
-    has.text ∙ ap (λ (m : Mode). history_text program m past.marks past.readings store held) has.made.sound.mode_is
-    ∙ ap (λ (marks : List Mark). history_text program mode marks past.readings store held) has.made.sound.closed.last in
+    has.text ∙ ap (λ (m : Mode). history_text program m past.marks past.readings store held) has.made.mode_is
+    ∙ ap (λ (marks : List Mark). history_text program mode marks past.readings store held) has.made.closed.last in
     record {
       program = program;
       printed = printed;
       says = record { source = has.source; text = subst (λ (t : List ℕ). PrintedText program t printed) (sym text) says };
-      serial = c.legal_runs_show_serial_texts.ensures (terms_of program mode) past before at ending has.made.sound.legal
-          (record { last = has.made.sound.closed.last; kept = range.kept });
+      serial = c.legal_runs_show_serial_texts.ensures (terms_of program mode) past before at ending has.made.legal
+          (record { last = has.made.closed.last; kept = range.kept });
     }

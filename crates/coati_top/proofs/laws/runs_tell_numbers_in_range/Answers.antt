@@ -7,17 +7,17 @@ returns c mode input run asked made =
     let script = run.script in
     let spelled = asked.source.source in
     let limits = c.scripts_are_within_the_limits.ensures in
-    c.runs_tell_numbers_in_range.ensures mode run made.sound.closed.before
+    c.runs_tell_numbers_in_range.ensures mode run made.closed.before
     (record {
       start = made.start;
       opened = made.opened;
-      end = made.sound.end;
+      end = made.end;
       ran = made.ran;
-      limit = made.sound.limit;
+      limit = made.limit;
       in_turn = made.in_turn;
-      legal = made.sound.legal;
-      last = made.sound.closed.last;
-      only = made.sound.closed.only;
+      legal = made.legal;
+      last = made.closed.last;
+      only = made.closed.only;
     })
     (record {
       accepted = asked.source.accepted;

@@ -1,6 +1,6 @@
 use Rattle.std.proofs.Common.{refl}
 use Rattle.coati_top.specs.Answer.Answers.{served}
-use Rattle.coati_top.proofs.answer.reply_with.Goals as goal
+use Rattle.coati_top.proofs.answer.reply_to.Goals as goal
 
 pub returns-in-Ok : goal.returns-in-Ok
-returns-in-Ok c = served (rw c.in-Ok.is at c.requires.served) refl
+returns-in-Ok c = served c.in-Ok.ensures.served refl
